@@ -1,12 +1,15 @@
 #!/usr/bin/env bash
-# The speed figures of RESULTS.md in one run, each beside its peer and its goal: packets through the engine, reads and lines of sessions, captures, and texts. A goal is a
-# ratio to the peer that is not to be passed, or as its row says. Each script that is called here checks what it counts, and stops where an answer is wrong or a number is missing.
+# Measures the main figures of RESULTS.md in one run, with peers and goals: packets through the
+# engine, reads and lines of sessions, captures, and texts. A goal is a maximum for the ratio to the
+# peer, unless its row says otherwise. Each script that is called here checks the outputs of what it
+# measures, and stops if one is wrong or a number is missing.
 #
-#   bench/speed.sh [packets|reads|captures|texts]..    these parts; all of them without a word
+#   bench/speed.sh [packets|reads|captures|texts]..    measures these parts, or all
 #
-# It measures the proved programs: those that ./test.sh built, and bench/drive, which it proves and builds itself, in its own time; or those that DRIVE, PROGRAM, BENCH and PCAP
-# name, as bench/unproved/build.py makes them. Needs rt, rustc, cc, python3, GNU time and valgrind; tcpdump where it is there. It is no part of the gate.
-# Captures are timed: nothing else should run beside it.
+# The programs are the proved ones that ./test.sh built, and bench/drive, which is proved and built
+# first. DRIVE, PROGRAM and PCAP name other ones, such as those that bench/unproved/build.py makes.
+# Needs rt, rustc, cc, python3, GNU time and valgrind, and uses tcpdump if it is installed. Captures
+# are timed, so nothing else should run in parallel. This is not a part of the gate.
 set -eu
 here="$(cd "$(dirname "$0")" && pwd)"
 . "$here/lib/counting.sh"
@@ -20,6 +23,9 @@ reads() {
     "$here/handlers/measure.sh" reads sessions
 }
 captures() { "$here/pcap/measure.sh"; }
-texts() { "$here/texts/measure.sh"; }
+texts() {
+    drive_built
+    "$here/texts/measure.sh"
+}
 
 parts 'packets reads captures texts' "$@"

@@ -1,6 +1,7 @@
 #!/usr/bin/env bash
-# A client as operators write them: over two pipes it sends a command only once the reply to the one before has come whole, and reads a value by its length.
-# A program that answers late, or writes more or less than its reply, is refused.
+# Checks the program with a client as operators write it. The client sends a command only after it
+# has read the complete reply to the one before, and reads a value by its length. A program that
+# answers late, or writes more or less than its reply, fails.
 set -eu
 . "$(dirname "$(readlink -f "$0")")/lib/checking.sh"
 is_built "$program"
@@ -12,14 +13,15 @@ coproc session { exec "$program" -e 'Idle -> c :: Counter -> Discard; FromDevice
 pid=$session_PID
 exec 3<&"${session[0]}" 4>&"${session[1]}"
 
-# next_line: the next line that comes, without its CR LF, in $line.
+# next_line: reads the next line into $line, without its CR LF.
 next_line() {
     if ! IFS= read -r -t "$seconds" line <&3; then fail "no line came in reply to: $sent"; fi
     if [ "${line%$'\r'}" = "$line" ]; then fail "a line has no CR in reply to: $sent" "$line"; fi
     line=${line%$'\r'}
 }
 
-# ask COMMAND REPLY [VALUE]: sends the command, and its reply has to be these lines, which `|` parts, with this value after them.
+# ask COMMAND REPLY [VALUE]: sends the command and checks its reply: these lines, separated by `|`,
+# and then this value.
 ask() {
     local reply='' value='' size
     sent=$1

@@ -1,16 +1,22 @@
 #!/usr/bin/env python3
-"""Holds the pages of the crates to their specs. Each crate of crates.txt has a README.md, which docs/DEFINITIONS.md links and which names just what the crate
-stands on, as crates.txt has it; each name in a table of definitions is defined in the crate's specs/, in the file that its row names; and each definition that
-a public contract cites has such a row.
+"""Checks that each definition that a public contract cites has a row in the README of its crate.
+Each row names a definition and the file that has it. Each crate of crates.txt has a README, which
+docs/DEFINITIONS.md links. Its line "What it stands on" names the same crates as crates.txt.
 
     tools/definitions.py [PAGE AS]
 
-With PAGE, that file is taken for the one that stands at AS.
+With PAGE, checks that file instead of the one at the path AS.
 
-A table of definitions has the heads Definition, Says and File, and maybe Source. Of what stands in backquotes in its first column the first word is the name.
-Public contracts are the clauses `requires` and `ensures` of the functions that other crates can call, in a program of all that are `pub`; with what a public
-trait, or a public type, says of itself in `ghost`, but for `view` and `invariant`, by which the code's fields stand for it. No row is asked for what the
-compiler declares for the types of the code (in `declared`), nor for the cases of a `data`, which stand with it."""
+A table of definitions has the columns Definition, Says and File, and optionally Source. In the
+first column, the first word of each piece of code is the name of a definition.
+
+Public contracts are the clauses `requires` and `ensures` of the functions that other crates can
+call; in a program, of all functions that are `pub`. The clauses in `ghost` of public traits also
+count, except `view` and `invariant`, which describe the fields of the code.
+
+A definition that the compiler declares for a type of the code (in `declared`) needs no row. Neither
+does a case of a `data`.
+"""
 
 import os
 import re
@@ -24,7 +30,7 @@ WORD = r"[\w◌>=?'-]+"
 
 
 def files_below(folder, ending):
-    """The files of a folder, each by its path in it without the ending, with its text."""
+    """Returns the texts of the files below a folder, by their paths in it without the ending."""
     found = {}
     for at, _, names in os.walk(f"{TOP}/{folder}"):
         for path in (f"{at}/{it}" for it in names if it.endswith(ending)):
@@ -34,7 +40,7 @@ def files_below(folder, ending):
 
 
 class Specs:
-    """A crate's public definitions, and the cases of each `data`, with the files that have them."""
+    """The public definitions of a crate and the cases of each `data`, each with its files."""
 
     def __init__(self, crate):
         self.places, self.cases = {}, {}
@@ -48,7 +54,7 @@ class Specs:
 
 
 class Page:
-    """A crate's README: the rows of its tables, each name with the files that its row names, and what is wrong with them."""
+    """The README of a crate: its faults, and each name in its tables with the files of its rows."""
 
     def __init__(self, text, specs, uses):
         self.rows, self.faults = {}, []
@@ -64,12 +70,13 @@ class Page:
         stands = [it for it in text.splitlines() if it.startswith(STANDS_ON)]
         named = re.findall(r"[`[](\w+)[]`]", " ".join(stands))
         if len(stands) != 1 or sorted(named) != sorted(uses):
-            self.faults.append(f"it has no line '{STANDS_ON}..' that names just what crates.txt does: {' '.join(uses)}")
+            self.faults.append(f"it has no line '{STANDS_ON}..' that names the same crates as crates.txt: {' '.join(uses)}")
 
     def take_row(self, line, cells, specs, wide):
+        """Reads a row of a table of definitions, and adds its faults."""
         names = [it.split()[0] for it in re.findall(r"`([^`]+)`", cells[0])]
         if len(cells) != wide or not names or not cells[1] or not cells[2]:
-            self.faults.append(f"{line} is no row of definitions")
+            self.faults.append(f"{line} is not a row of definitions")
             return
         files = set(cells[2].split(", "))
         for name in names:
@@ -84,7 +91,10 @@ class Page:
 
 
 class Surface:
-    """What of a crate's code others can name: of a program, which nobody stands on, all that its modules show one another."""
+    """The public functions and types of a crate: those that other crates can name.
+
+    In a program, on which no crate stands, everything that is `pub` counts.
+    """
 
     def __init__(self, texts):
         self.is_program = "lib" not in texts
@@ -96,20 +106,25 @@ class Surface:
             self.modules.add(module)
             waiting += [below + it for it in re.findall(r"^pub mod (\w+);", texts[module], re.M)]
             self.types |= set(re.findall(r"^pub (?:struct|enum|trait|type) (\w+)", texts[module], re.M))
-            for path, several, one in re.findall(r"^pub use ((?:\w+::)+)(?:\{([^}]*)\}|(\w+));", texts[module], re.M):
-                names = re.findall(r"\w+", several or one)
+            for path, group, single in re.findall(r"^pub use ((?:\w+::)+)(?:\{([^}]*)\}|(\w+));", texts[module], re.M):
+                names = re.findall(r"\w+", group or single)
                 self.types |= set(names)
                 self.functions |= {(below + path.removesuffix("::").replace("::", "/"), it) for it in names}
 
     def has_function(self, module, name):
+        """Returns whether other crates can name a function of a module."""
         return self.is_program or module in self.modules or (module, name) in self.functions
 
     def has_type(self, name):
+        """Returns whether other crates can name a type or trait."""
         return self.is_program or name in self.types
 
 
 def imports_of(line):
-    """What a `ghost use` names: each word with the crate and the file that it is from, and its name there; a file's own word has none."""
+    """Returns the names that a `ghost use` imports, each with its crate, file and name in the file.
+
+    A name that stands for a whole file has None instead of the last one.
+    """
     path = re.match(r"ghost use Rattle\.(\w+)\.specs\.([\w.]+?)(?:\.\{(.*)\}| as (\w+));", re.sub(r"\s+", " ", line))
     if not path:
         return {}
@@ -129,29 +144,32 @@ TOKEN = re.compile(
 
 
 def end_of_clause(text, at):
-    """Behind the brace that closes the one before a place."""
-    deep = 1
-    while deep:
-        one = re.compile(rf"{STRING}|//[^\n]*|[{{}}]", re.S).search(text, at)
-        deep, at = deep + {"{": 1, "}": -1}.get(one[0], 0), one.end()
+    """Returns the position after the brace that closes the one just before `at`."""
+    depth = 1
+    while depth:
+        token = re.compile(rf"{STRING}|//[^\n]*|[{{}}]", re.S).search(text, at)
+        depth, at = depth + {"{": 1, "}": -1}.get(token[0], 0), token.end()
     return at
 
 
 class Reading:
-    """A file of the code, read block by block: what each open one imports, and whose it is."""
+    """A source file that is read block by block: for each open block its imports, and its kind."""
 
     def __init__(self, module, text, surface):
         self.module, self.text, self.surface = module, text, surface
         self.scopes, self.kinds = [{}], ["file"]
-        # Of the block that comes; the function whose clauses come; how many parentheses are open.
+        # The kind of the next block, the function whose clauses come next, and the number of open
+        # parentheses.
         self.kind, self.name, self.round = "", "", 0
 
     def opens(self, kind):
+        """Enters a block of a kind: `file`, `trait`, `type`, or none of these."""
         self.scopes.append({})
         self.kinds.append(kind)
         self.kind, self.name = "", ""
 
     def kind_of_impl(self, head):
+        """Returns the kind of an impl's block: `trait`, `type`, or '' if its type is not public."""
         while "<" in head.replace("->", ""):
             head = re.sub(r"<[^<>]*>", "", head.replace("->", ""))
         words = head.split()
@@ -159,11 +177,13 @@ class Reading:
         return ("trait" if "for" in words else "type") if self.surface.has_type(owner) else ""
 
     def takes_function(self, token):
+        """Notes the name of a public function, whose clauses come next."""
         called, kind = token.split()[-1], self.kinds[-1]
         is_public = kind == "file" and self.surface.has_function(self.module, called) or kind == "type"
         self.name = called if kind == "trait" or is_public and re.match(r"pub\s", token) else ""
 
     def takes_word(self, token):
+        """Reads an import, or the head of a trait, an impl or a function."""
         if re.match(r"ghost\s+use\s", token):
             self.scopes[-1].update(imports_of(token))
         elif re.match(r"(pub\s+)?trait\s", token):
@@ -174,6 +194,7 @@ class Reading:
             self.takes_function(token)
 
     def takes_bracket(self, token):
+        """Reads a bracket or a semicolon, and enters or leaves a block."""
         if token in "()[]":
             self.round += 1 if token in "([" else -1
         elif token == "{":
@@ -185,7 +206,7 @@ class Reading:
             self.name = ""
 
     def clauses(self):
-        """The clauses of the public functions, traits and types, with what is imported where they stand."""
+        """Yields the clauses of public functions and traits: name, text, and the imports there."""
         at = 0
         while found := TOKEN.search(self.text, at):
             token, at = found[0].strip(), found.end()
@@ -204,7 +225,7 @@ class Reading:
 
 
 def cited_in(clause, imports):
-    """The definitions that a clause cites: crate, file and name."""
+    """Yields the definitions that a clause cites, as crate, file and name."""
     clause = re.sub(rf"{STRING}|//[^\n]*", " ", clause, flags=re.S)
     for word in re.findall(rf"(?<![\w.'-]){WORD}(?:\.{WORD})*", clause):
         parts = word.split(".")
@@ -214,7 +235,10 @@ def cited_in(clause, imports):
 
 
 def citations(crates):
-    """What public contracts cite of the crates' specs, each with the places that cite it; and the places of all contracts."""
+    """Returns the definitions that public contracts cite, and the set of all public contracts.
+
+    Each definition has the list of functions that cite it.
+    """
     cited, contracts = {}, set()
     for crate in crates:
         texts = files_below(f"crates/{crate}/src", ".rt")
@@ -229,6 +253,7 @@ def citations(crates):
 
 
 def text_at(name, words):
+    """Returns the text of a file, or of its stand-in from the command line, or None."""
     path = words[0] if words[1:] == [name] else f"{TOP}/{name}"
     if not os.path.exists(path):
         return None

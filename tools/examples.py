@@ -1,11 +1,19 @@
 #!/usr/bin/env python3
-"""Compares the examples of pages and files with what the programs answer. TABLE has a row for each page or folder: the program, and the kind of example.
+"""Compares the examples of pages and files with what the programs do: statuses and messages,
+sessions with their transcripts, calls with their replies, and books that are replayed. Others are
+texts with their faults, pictures, captures, and the commands of README.
 
-    tools/examples.py [KIND..] [PROGRAM..]               all rows, or those of these kinds and programs
-    tools/examples.py --with FILE PAGE [KIND..] ..       the rows of that page alone, with the file taken for it
+    tools/examples.py [KIND..] [PROGRAM..]               checks all rows of TABLE except `tries`, or
+                                                         those of these kinds and programs
+    tools/examples.py --with FILE PAGE [KIND..] ..       checks the rows of that page, with FILE
+                                                         instead of it
 
-The programs must have been built; PROGRAM, BENCH, CALLS and PCAP name others that are checked in their place. QUICK=1 leaves out the longest capture. What is
-wrong first ends it with status 1."""
+TABLE has a row for each page or folder, with the programs and the kind of example. The programs
+must have been built. PROGRAM and PLAYER name other programs to check, CALLS and PCAP other programs
+for the modes --calls and --pcap of click_prog. QUICK=1 leaves out the longest capture. `tries`
+builds two programs with the real `rt`, which takes minutes, so it runs only if it is named. The
+first failure ends the script with status 1.
+"""
 
 import os
 import re
@@ -13,35 +21,41 @@ import select
 import shlex
 import subprocess
 import sys
+import tempfile
 import time
 import xml.etree.ElementTree as xml
 from collections import namedtuple
 
 sys.dont_write_bytecode = True
 sys.path.insert(0, f"{os.path.dirname(os.path.realpath(__file__))}/lib")
-from trying import ENVIRONMENT, GREETING, TOP, answered, begun, bytes_of, fail, in_folder, is_there, lines_of, names_in, program, ran, same, stand_ins, text_of
+from programs import VARIABLES
+from trying import GREETING, TOP, answered, begun, bytes_of, command_of, fail, in_folder, is_there, lines_of, names_in, program, ran, same, stand_ins, text_of
 
 COUNTER = "Idle -> c :: Counter -> Discard;"
 
 
-# What pages show
+# Reading pages
 
 
 def indented(lines):
-    """The lines of a page that are indented by four blanks, without these."""
+    """Returns the lines of a page that are indented by four blanks, without the blanks."""
     return [it[4:] for it in lines if it.startswith("    ")]
 
 
 def between(lines, first, last):
-    """The lines from the first one that matches up to one that ends them, if there is one."""
+    """Returns the lines from the first match of `first` to the line before a match of `last`."""
     at = next((at for at, it in enumerate(lines) if re.match(first, it)), len(lines))
     end = next((end for end, it in enumerate(lines) if end > at and re.match(last, it)), len(lines))
     return lines[at:end]
 
 
 def parted(lines):
-    """What is sent, behind `> `, where no `-` stands before it, and all else, which has to come. What is sent begins where the last byte of an answer stood,
-    which is the line's own beginning but after a value."""
+    """Separates a dialogue into what is sent, after `> `, and the expected answer, which is the
+    rest.
+
+    After a value, which has no line end, `> ` stands in the middle of a line. The `> ` of `-> ` is
+    not such a sign.
+    """
     sent, wanted = "", ""
     for line in lines:
         sign = re.search(r"(?:^|(?<=[^-]))> ", line)
@@ -51,7 +65,10 @@ def parted(lines):
 
 
 def blocks(page, *begins):
-    """The fenced blocks that begin with one of these lines, each with the page's lines before and after it."""
+    """Returns the fenced blocks that begin with one of these lines.
+
+    Each comes with the page's lines before and after it.
+    """
     lines, found, at = lines_of(page), [], 0
     while at < len(lines):
         if lines[at] in begins:
@@ -64,27 +81,27 @@ def blocks(page, *begins):
     return found
 
 
-# Kinds: each is given its row, and answers what it found
+# Kinds of examples: each function checks a row and returns a sentence about it
 
 
 def dialogue(row):
-    """A page's example: over the text in the line before it, what is sent is answered by all else."""
+    """Checks the example dialogue of a page, with the configuration in the line before it."""
     name, page = row.programs[0], row.pages[0]
-    begin = {"click_prog": "An example, with", "click_calls": "An example of calls, with"}[name]
+    begin = {"click_prog": "An example, with", "click_prog --calls": "An example of calls, with"}[name]
     lines = between(lines_of(page), begin, "## ")
     text = re.match(rf"{begin} `-e '(.*)'`", lines[0]) if lines else None
     if not text:
         fail(f"{page} shows no example for {name}")
     sent, wanted = parted(indented(lines))
     is_there(sent, f"what {page} sends")
-    came = ran([program(name), "-e", text[1]], sent)
-    # A page does not show carriage returns.
+    came = ran([*command_of(name), "-e", text[1]], sent)
+    # Pages do not show the CR of a line end.
     answered(came._replace(out=came.out.replace(b"\r", b"")) if name == "click_prog" else came, f"the example of {page}", out=wanted)
     return "the example is answered as it shows"
 
 
 def client(row):
-    """The page's client in Python, beside the router that the page names after it, prints the block that follows."""
+    """Checks the page's client in Python: it prints the block after the command of its router."""
     page = row.pages[0]
     scripts = blocks(page, "```python")
     same(1, len(scripts), f"the clients of {page}")
@@ -92,11 +109,12 @@ def client(row):
     command = next((found[1] for it in after if (found := re.fullmatch(r"With `(\./run\.sh .*)` it prints", it))), None)
     shown = "\n".join(between(after, "```$", "## ")[1:]).partition("\n```")[0] + "\n"
     if not command:
-        fail(f"{page} does not say beside which router its client runs")
+        fail(f"{page} does not name the router of its client")
     with in_folder(("run.sh", program("click_prog"))) as folder:
         streams = {"stdin": subprocess.DEVNULL, "stdout": subprocess.PIPE, "stderr": subprocess.STDOUT}
         router = subprocess.Popen(["timeout", "20", "bash", "-c", f"exec {command}"], cwd=folder, **streams)
-        # Until it listens on 127.0.0.1:7777; to try that by connecting would take the session.
+        # Waits until the router listens on 127.0.0.1:7777. A connection, as a test, would use up
+        # the session.
         for _ in range(100):
             with open("/proc/net/tcp", encoding="ascii") as it:
                 if "0100007F:1E61 00000000:0000 0A" in it.read():
@@ -107,13 +125,13 @@ def client(row):
             router.kill()
         same(0, came.status, f"the status of {page}'s client, which said {came.err.decode()[-300:]}")
         answered(came, f"what the client of {page} prints", out=shown.encode())
-        same(b"", router.communicate(timeout=30)[0], f"what the router beside the client of {page} says")
-        same(0, router.returncode, f"the status of the router beside the client of {page}")
+        same(b"", router.communicate(timeout=30)[0], f"the output of the router of the client of {page}")
+        same(0, router.returncode, f"the status of the router of the client of {page}")
     return "the client prints what it shows"
 
 
 def script(row):
-    """The page's script in Python, which starts the program itself as ./run.sh, prints the block after `It prints`."""
+    """Checks that the page's script in Python, which runs ./run.sh, prints the block after it."""
     page = row.pages[0]
     scripts = blocks(page, "```python")
     same(1, len(scripts), f"the scripts of {page}")
@@ -126,69 +144,39 @@ def script(row):
     return "the script prints what it shows"
 
 
-def manual_pages():
-    """The classes in their order, and their manual pages in the sources, each as a section of docs/ELEMENTS.md: its first line after the name, its example as a
-    block."""
-    folder = "crates/click_classes/src"
-    order = re.findall(r"^    Class::(\w+),$", text_of("crates/click_base/src/class.rt"), re.M)
-    pages, page, name = {}, "", ""
-    for line in (it for file in names_in(f"{folder}/classes", ".rt") for it in lines_of(f"{folder}/classes/{file}.rt")):
-        begun_here = re.match(r"/// ([A-Za-z]+)[(:]", line)
-        if begun_here and not page:
-            name, (head, rest) = begun_here[1], line[4:].split(": ", 1)
-            page = f"## {name}\n`{head}`: {rest}\n"
-        elif re.fullmatch(r"/// Example: `.*`", line):
-            page += f"```click\n{line[14:-1]}\n```\n"
-        elif line.startswith("///"):
-            page += line[4:] + "\n"
-        else:
-            if line.startswith("pub fn make_"):
-                pages[name] = page
-            if not line.startswith("#["):
-                page = ""
-    return order, "".join(pages.get(it, "") for it in order)
-
-
-def same_words(wanted, came, what):
-    """The two lists of words are the same; where they differ the words before are shown too."""
-    places = range(max(len(wanted), len(came)))
-    at = next((at for at in places if wanted[at : at + 1] != came[at : at + 1]), None)
-    if at is not None:
-        before = max(0, at - 8)
-        fail(what, f"the code: {' '.join(wanted[before : at + 3])}", f"the page: {' '.join(came[before : at + 3])}")
-
-
 def sections(row):
-    """Each section is the manual page of the code, word by word, and then a block of calls, which begins with a configuration."""
-    page, calls = row.pages[0], program("click_calls")
-    order, wanted = manual_pages()
-    plain = re.sub(r"^```calls\n.*?^```\n", "", text_of(page), flags=re.M | re.S)
-    came = plain[plain.find("\n## ") :]
-    same_words(wanted.split(), came.split(), f"the manual pages and {page} differ")
-    same(len(order), wanted.count("## "), "as many manual pages as classes")
+    """Checks that each section has one block of calls.
+
+    The block begins with a configuration, and its calls get the replies that it shows.
+    """
+    page, calls = row.pages[0], command_of("click_prog --calls")
     called = []
     for lines, before, _ in blocks(page, "```calls"):
         called += [it for it in before if it.startswith("## ")][-1:]
         sent, replies = parted(lines[1:])
         is_there(sent, f"the calls of {called[-1]}")
-        answered(ran([calls, "-e", lines[0]], sent), f"the calls of {called[-1]}", out=replies)
-    same([it for it in came.splitlines() if it.startswith("## ")], called, f"{page}: a block of calls in each section")
-    return f"{len(order)} sections are the manual pages of the code, and the calls of each are answered as it says"
+        answered(ran([*calls, "-e", lines[0]], sent), f"the calls of {called[-1]}", out=replies)
+    same([it for it in lines_of(page) if it.startswith("## ")], called, f"{page}: a block of calls in each section")
+    return f"the calls of {len(called)} sections are answered as it says"
 
 
 def readings(row):
-    """The examples of the language, blocks of pages in their order: what the parser reads in each is its line of readings.txt, which has that and, after a tab, the
-    example's first line. Where `Fault: ..` stands after the block the program refuses the example with it, and serves it otherwise."""
-    (list_of, *pages), (prog, bench) = row.pages, map(program, row.programs)
+    """Checks the examples of the language, which are blocks of pages, in order.
+
+    A line of readings.txt has what the parser reads in an example and, after a tab, the first line
+    of the example. If `Fault: ..` follows the block, the program refuses the example with this
+    fault; otherwise it serves it.
+    """
+    (list_of, *pages), prog = row.pages, program(row.programs[0])
     found = [(page, *it) for page in pages for it in blocks(page, "```click")]
     first = lambda lines: lines[0] if lines else ""
     listed = [it.split("\t", 1)[-1] for it in lines_of(list_of)]
     same(listed, [first(lines) for _, lines, _, _ in found], f"the first lines of the examples, as {list_of} has them")
     shown = 0
-    for line, (page, lines, _, after) in zip(lines_of(list_of), found):
+    play("what is read in the examples", [("parsed", "\n".join(lines) + "\n", line.split("\t")[0]) for line, (_, lines, _, _) in zip(lines_of(list_of), found)])
+    for page, lines, _, after in found:
         text = "\n".join(lines) + "\n"
         what = f"the example that begins with: {first(lines)}"
-        answered(ran([bench, "input"], text.encode()), f"what is read in {what}", out=line.split("\t")[0].encode() + b"\n")
         faults = [it[7:] for it in after[: next((at for at, it in enumerate(after) if it == "```click"), len(after))] if it.startswith("Fault: ")]
         shown += len(faults)
         if len(faults) > 1:
@@ -199,67 +187,87 @@ def readings(row):
 
 
 def texts(row):
-    """What the parser reads in each text, and texts of as many connections as there may be."""
-    bench = program("click_bench")
-    for line in lines_of(row.pages[0]):
-        reading, text = line.split("\t", 1)
-        answered(ran([bench, "input"], text.encode()), f"what is read in: {text}", out=f"{reading}\n".encode())
+    """Checks what the parser reads in each text, and the limits of connections and elements."""
+    rows = [it.split("\t", 1) for it in lines_of(row.pages[0])]
+    play(f"what is read in {row.pages[0]}", [("parsed", text, reading) for reading, text in rows])
     crossed = lambda sources, sinks: "elementclass H { input -> output } h :: H;\n" + "Idle -> h;\n" * sources + "h -> Discard;\n" * sinks
-    for what, text, wanted in (
-        ("as many connections as there may be", crossed(128, 128), "256 elements, 16384 connections"),
-        ("more connections than there may be", crossed(129, 128), "TooMany"),
-        ("a long chain", "Idle" + " -> Null" * 4095, "4096 elements, 4095 connections"),
-    ):
-        answered(ran([bench, "flat"], text.encode()), what, out=f"{wanted}\n".encode())
-    return f"{len(lines_of(row.pages[0]))} texts read as it says, and as many connections made as there may be"
+    limits_of = (
+        (crossed(128, 128), "256 elements, 16384 connections"),
+        (crossed(129, 128), "TooMany"),
+        ("Idle" + " -> Null" * 4095, "4096 elements, 4095 connections"),
+    )
+    play("as many connections as there may be, and one chain more", [("expanded", text, wanted) for text, wanted in limits_of])
+    return f"{len(rows)} texts read as it says, and as many connections made as there may be"
+
+
+def play(what, steps):
+    """Plays a test script with a case for each step, which is given by its word, text and reply."""
+    with tempfile.TemporaryDirectory(prefix="examples-") as folder:
+        with open(f"{folder}/steps.script", "wb") as it:
+            it.writelines(b"case\tThe text is read as it is listed.\n%s\t%s\t%s\n" % (word.encode(), spelled(text), reply.encode()) for word, text, reply in steps)
+        came = ran([program("click_player"), f"{folder}/steps.script"])
+    answered(came, what, out=f"{len(steps)} cases passed, 0 failed\n".encode())
+
+
+def spelled(text):
+    """Returns the bytes of a text, escaped as in a test script."""
+    return b"".join(b"%c" % it if 32 <= it < 127 and it != 92 else b"\\%02x" % it for it in text.encode())
 
 
 def is_served(prog, what, text):
+    """Checks that the program serves this configuration."""
     answered(ran([prog, "-e", text]), what, out=GREETING)
 
 
 def is_refused(prog, what, text, line):
+    """Checks that the program refuses this configuration with this line on standard error."""
     answered(ran([prog, "-e", text]), what, err=f"{line}\n".encode(), status=1)
 
 
 def fault_rows(page):
-    """Of each row of docs/FAULTS.md the fault's number and name, its example and the line that it shows; in a cell a bar is written `\\|`."""
+    """Yields of each row of docs/FAULTS.md the number and name of the fault, its example and its
+    line.
+
+    A bar in a cell is written `\\|`.
+    """
     for line in (it for it in lines_of(page) if re.match(r"\| [0-9]", it)):
         cells = [it.replace("\\|", "|").strip() for it in re.split(r"(?<!\\)\|", line)]
         code = lambda cell: cell.partition("`")[2].rpartition("`")[0]
         yield cells[1], code(cells[4]), code(cells[5])
 
 
-# Where the layers name their faults.
+# The files in which the layers name their faults.
 FAULT_KINDS = ["crates/click_text/src/syntax.rt", *(f"crates/click_{it}/src/fault.rt" for it in ("scopes", "expand", "classes", "ports"))]
 
 
 def faults(row):
-    """There is a row for each fault's number, in order and with its name in the code, and each row's example is refused with just the line that it shows."""
-    (page, *layers), (prog, bench), tried = row.pages, map(program, row.programs), []
+    """Checks that each fault of the code has a row, in order of the numbers and with its name.
+
+    Each row's example is refused with exactly the line that the row shows.
+    """
+    (page, *layers), prog, tried = row.pages, program(row.programs[0]), []
     for fault, example, line in fault_rows(page):
         tried.append(fault)
         if fault == "6 TooLarge":
-            # No word of a command line is that long, so the limit is tried where a text comes from standard input.
-            for size, says in ((1048576, "prepared"), (1048577, fault)):
-                answered(ran([bench, "router"], b" " * size), f"a text of {size} bytes", out=f"{says}\n".encode())
-        # (tools/refuse.sh tries want of memory)
+            # No argument of a command can be that long, so a test script checks the limit.
+            play("texts of the greatest size and of one byte more", [("prepared", " " * 1048576, "0"), ("prepared", " " * 1048577, fault)])
+        # tools/alloc_failures.py checks this fault.
         elif fault != "7 NoMemory":
             if line != f"click_prog: {fault}" and not line.startswith(f"click_prog: {fault} "):
                 fail(f"the row of {fault} shows the line {line}")
             is_refused(prog, f"the example of fault {fault}", example, line)
-    # Each layer's own, and want of memory in each of them.
+    # The faults of each layer; out of memory is a fault of each.
     kinds = {kind for it in layers for kind in re.findall(r'^ *\w+::\w+ => "(\d+ \w+)",$', text_of(it), re.M)}
     same(sorted(kinds, key=lambda it: int(it.split()[0])), tried, f"the faults of {page}, in order")
     return f"{len(tried)} faults, each shown by its example"
 
 
 def driver(row):
-    """The block of the page stands in the source, line after line."""
+    """Checks that the lines of the page's block are consecutive lines of the source."""
     page, source = row.pages
     block = [it.strip() for it in indented(lines_of(page))]
     if len(block) < 5:
-        fail(f"the block of {page} has {len(block)} lines, and is no driver")
+        fail(f"the block of {page} has only {len(block)} lines, which cannot be a driver")
     lines = [it.strip() for it in lines_of(source)]
     if not any(lines[at : at + len(block)] == block for at in range(len(lines))):
         fail(f"the driver of {page} is not in {source}")
@@ -267,37 +275,45 @@ def driver(row):
 
 
 def captures(row):
-    """Captures, and the page's own example, by a script of their own."""
+    """Checks captures, and the example of the page, by tools/pcap_example.sh."""
     page = os.path.realpath(stand_ins.get(row.pages[0]) or f"{TOP}/{row.pages[0]}")
-    came = ran([f"{TOP}/tools/pcap_example.sh", page], seconds=1200, env={**os.environ, "PCAP": program("click_pcap")})
+    came = ran([f"{TOP}/tools/pcap_example.sh", page], seconds=1200, env={**os.environ, "PCAP": program("click_prog --pcap")})
     if came.status:
         sys.stderr.buffer.write(came.err)
         sys.exit(came.status)
     return came.out.decode().strip()
 
 
-# Examples in files: what a program reads and what it writes, by the endings beside NAME.click.
-ENDINGS = {"click_prog": (".session", ".transcript", ".fault", ".status", ".options"), "click_calls": (".calls", ".out")}
+# The endings of the files of an example NAME.click: for each program its input, its output, and
+# others.
+ENDINGS = {"click_prog": (".session", ".transcript", ".fault", ".status", ".options"), "click_prog --calls": (".calls", ".out")}
 
 
 def files(row):
-    """Over the text of NAME.click the program is sent the one file and answers the other; where there are such, with further words, a status and a line of fault."""
+    """Checks the examples of a folder: the program with NAME.click reads one file and writes the
+    other.
+
+    Further files of an example have options, the exit status and the line on standard error.
+    """
     name, folder = row.programs[0], row.pages[0]
     given, out, *more = ENDINGS[name]
     for example in names_in(folder, ".click"):
         part = lambda ending: bytes_of(f"{folder}/{example}{ending}", b"")
         text, words = part(".click").rstrip(b"\n"), part(".options").split(b"\n")[:-1]
-        came = ran([program(name), "-e", text, *words], part(given))
+        came = ran([*command_of(name), "-e", text, *words], part(given))
         answered(came, f"example {example}", out=part(out), err=part(".fault"), status=int(part(".status") or 0))
-    # A file that belongs to no example would be read by nothing.
+    # A file that belongs to no example would be ignored.
     for stray in set(names_in(folder, given, out, *more)) - set(names_in(folder, ".click")):
-        fail(f"what stands in {folder} for {stray} stands beside no {stray}.click")
+        fail(f"{folder} has files of an example {stray}, but no {stray}.click")
     return f"{len(names_in(folder, '.click'))} examples answered"
 
 
 def books(row):
-    """Over the text of NAME.click the calls of NAME.book are made again, and it is told what NAME.out says; where there is such, with a status. Where there is
-    a NAME.session, the book is just what its session writes to standard error."""
+    """Checks that replaying NAME.book with the configuration NAME.click prints NAME.out.
+
+    NAME.status has the exit status, if it is not 0. If there is a NAME.session, the book is exactly
+    what the program prints on standard error for this session.
+    """
     folder = row.pages[0]
     sessions = names_in(folder, ".session")
     for example in names_in(folder, ".click"):
@@ -306,23 +322,23 @@ def books(row):
         if example in sessions:
             came = ran([program("click_prog"), "-e", text, "--book"], part(".session"))
             same((part(".book"), 0), (came.err, came.status), f"the book of session {example}, and its status")
-        came = ran([program("click_calls"), "-e", text, "--replay"], part(".book"))
+        came = ran([*command_of("click_prog --calls"), "-e", text, "--replay"], part(".book"))
         answered(came, f"book {example}", out=part(".out"), status=int(part(".status") or 0))
     for stray in set(names_in(folder, ".book", ".out", ".session", ".status")) - set(names_in(folder, ".click")):
-        fail(f"what stands in {folder} for {stray} stands beside no {stray}.click")
+        fail(f"{folder} has files of an example {stray}, but no {stray}.click")
     is_there(sessions, f"sessions of {folder}")
     return f"{len(names_in(folder, '.click'))} books made again, {len(sessions)} of them as a session writes it"
 
 
 def refused(row):
-    """Each text is refused with the fault before it, alone; and so are texts that are too deep or too large."""
+    """Checks that each text is refused with the fault before it, and texts past the limits."""
     prog = program("click_prog")
     doubling = "elementclass B0 { }" + "".join(f" elementclass B{k} {{ x, y :: B{k - 1}; }}" for k in range(1, 16))
     rows = [it.split("\t", 1) for it in lines_of(row.pages[0])] + [
         ("4 Unexpected at 1:33", "{" * 32),
         ("5 TooDeep at 1:33", "{" * 33),
         ("16 TooMany", "Idle;" * 4097),
-        # A wrong class comes before a passed limit, and that before a flat name that is taken.
+        # A wrong class is found before an exceeded limit, and that before a repeated flat name.
         ("13 UnknownClass at 1:20491", "Idle;" * 4097 + "x :: Foo;"),
         ("16 TooMany", "a :: { b :: Idle; }; a/b :: Idle; " + "Idle;" * 4097),
         ("16 TooMany", f"{doubling} z :: B15;"),
@@ -333,14 +349,17 @@ def refused(row):
 
 
 def opens(row):
-    """Each text is served, and so is one of as many elements as there may be."""
+    """Checks that each text is served, and a text with the maximum number of elements."""
     for text in [*lines_of(row.pages[0]), "Idle;" * 4096]:
         is_served(program("click_prog"), f"opens: {text[:200]}", text)
     return f"{len(lines_of(row.pages[0]))} texts served"
 
 
 def flat_form(came):
-    """Of what a session answers to `READ list` and `READ flatconfig`: the names and classes of the elements, in order, and the connections as pairs of names, if it opens."""
+    """Returns the elements, as names and classes in order, and the connections, as pairs of names.
+
+    They are read from a session's replies to `READ list` and `READ flatconfig`.
+    """
     values, rest = [], came.out
     while found := re.search(rb"DATA (\d+)\r\n", rest):
         rest = rest[found.end() :]
@@ -353,7 +372,12 @@ def flat_form(came):
 
 
 def shows(picture, elements, joined, what):
-    """The picture is XML, with a box for each of the elements, in order, and a line for each connection from the lower side of the one's box to the upper side of the other's."""
+    """Checks a picture: it is XML, with a box for each element, in order, and a line for each
+    connection.
+
+    The line begins at the lower side of the source's box and ends at the upper side of the
+    target's.
+    """
     svg, boxes = "{http://www.w3.org/2000/svg}", {}
     try:
         top = xml.fromstring(picture)
@@ -376,7 +400,10 @@ def shows(picture, elements, joined, what):
 
 
 def draws(prog, text):
-    """The program draws just what a session lists over the text, or refuses it as a run does; whether it draws it."""
+    """Checks that the program draws what a session lists, or refuses the text as a run does.
+
+    Returns whether it drew it.
+    """
     what = f"the picture of {text[:200]}"
     run, drawn = ran([prog, "-e", text], b"READ list\nREAD flatconfig\nQUIT\n"), ran([prog, "--draw", "-e", text], b"READ list\n")
     if run.status:
@@ -388,8 +415,11 @@ def draws(prog, text):
 
 
 def pictures(row):
-    """The page's command writes just the picture that the page shows; of each example, of each text that opens and of each that does not, `--draw` writes what it
-    should; and a picture that cannot be written is a failed device."""
+    """Checks that the page's command writes the picture that the page shows, and other drawings.
+
+    These are the drawings of all examples, of texts that are served, and of texts that are refused.
+    A picture that cannot be written is a failed write.
+    """
     (page, *folders), prog = row.pages, program("click_prog")
     command = re.search(r"^    (\./run\.sh --draw .* > (\S+\.svg))$", text_of(page), re.M)
     if not command or f"]({command[2]})" not in text_of(page):
@@ -407,28 +437,31 @@ def pictures(row):
 
 
 def wrong_lines(row):
-    """A line that is no call ends the program; the calls before it were answered, and those after it are not."""
-    calls, text, longest = program("click_calls"), "FromDevice(a) -> q :: Queue -> ToDevice(b);", "00" * 1600
+    """Checks that a line that is not a call ends the program, after replies to earlier calls."""
+    calls, text, longest = command_of("click_prog --calls"), "FromDevice(a) -> q :: Queue -> ToDevice(b);", "00" * 1600
     rows = [it.split("\t", 1) for it in lines_of(row.pages[0])] + [
         ("a packet has more than 1600 bytes", f"arrive a 00{longest}"),
         ("a packet has more than 1600 bytes", f"poll a 00,00{longest}"),
         ("the line has more than 131072 bytes", "read q.length " + "x" * 131059),
     ]
     for wrong, line in rows:
-        came = ran([calls, "-e", text], f"round\ntransmit b\n{line}\nround\n".encode())
+        came = ran([*calls, "-e", text], f"round\ntransmit b\n{line}\nround\n".encode())
         answered(came, f"the line that begins with: {line[:100]}", out=b"worked 0\nsent none\n", err=f"error 3: {wrong}\n".encode(), status=2)
-    # The most bytes of a packet and of a line.
+    # The longest packet and the longest line.
     sent = f"arrive a {longest}\npoll a {','.join([longest] * 32)}\nread q.length {'x' * 131058}\ntransmit b\n"
-    answered(ran([calls, "-e", text], sent.encode()), "the longest packets and lines", out=f"entered 1\nentered 32\nvalue 3333\nsent {longest} 0 0.0.0.0\n".encode())
+    answered(ran([*calls, "-e", text], sent.encode()), "the longest packets and lines", out=f"entered 1\nentered 32\nvalue 3333\nsent {longest} 0 0.0.0.0\n".encode())
     return f"{len(rows)} lines refused, and the longest answered"
 
 
 def arguments(row):
-    """Each row has a program, the words of its command line, and a line that it writes. It writes on standard error alone, and ends with status 2; where the line
-    is `good`, a session is served, and at its end the counts of each link are told."""
+    """Checks command lines: each row has a program, with its mode if any, arguments, and a line.
+
+    The program prints the line on standard error, nothing on standard output, and exits with status
+    2. If the line is `good`, it serves a session and then prints the counts of each link.
+    """
     rows = [it.split("\t") for it in lines_of(row.pages[0]) if not it.startswith("#")]
     for name, words, line in rows:
-        came = ran([program(name), *(it.encode().decode("unicode_escape").encode("latin-1") for it in shlex.split(words))], b"QUIT\n")
+        came = ran([*command_of(name), *(it.encode().decode("unicode_escape").encode("latin-1") for it in shlex.split(words))], b"QUIT\n")
         what = f"{name} {words}"
         if line == "good":
             counts = "received 0, from elsewhere 0, too long 0, no room 0, no memory 0, entered 0, sent 0, failed 0"
@@ -437,21 +470,21 @@ def arguments(row):
             continue
         same(b"", came.out, f"standard output of {what}")
         same(2, came.status, f"the status of {what}")
-        # Its own lines stand alone; clap's have more about them.
-        if line.encode() not in came.err.splitlines() or line.startswith(name) and came.err.count(b"\n") != 1:
+        # A message of the program is one line; a message of clap has more lines around it.
+        if line.encode() not in came.err.splitlines() or line.startswith(name.split()[0]) and came.err.count(b"\n") != 1:
             fail(f"{what}: no line of standard error is as it should be", f"wanted: {line}", f"came:   {came.err.decode(errors='replace')[:600]}")
     return f"{len(rows)} command lines answered"
 
 
 def fails_at_devices(prog, text, given, greeting):
-    """A peer that takes nothing more is a failed write; standard input that cannot be read is a failed read, after what comes before it."""
+    """Checks that a full output and a closed standard input end the program with status 4."""
     with open("/dev/full", "wb") as full:
-        answered(ran([prog, "-e", text], given, stdout=full), "a full device", status=4)
-    answered(ran([prog, "-e", ""], None, preexec_fn=lambda: os.close(0)), "closed standard input", out=greeting, status=4)
+        answered(ran([*prog, "-e", text], given, stdout=full), "a full device", status=4)
+    answered(ran([*prog, "-e", ""], None, preexec_fn=lambda: os.close(0)), "closed standard input", out=greeting, status=4)
 
 
 def limits(row):
-    """The longest line and the longest payload of a session, and a byte more or less; devices that fail."""
+    """Checks the longest line and payload of a session, other lengths, and failing devices."""
     prog, greeting = program("click_prog"), GREETING.decode()
     done = f"{greeting}200 Write handler 'c.reset_counts' OK\r\n"
     line, payload = "WRITE c.reset_counts ", "WRITEDATA c.reset_counts 1048576\r\n"
@@ -462,29 +495,33 @@ def limits(row):
         ("a payload that lacks a byte", payload + "\0" * 1048575, greeting),
     ):
         answered(ran([prog, "-e", COUNTER], sent.encode()), what, out=wanted.encode())
-    fails_at_devices(prog, "", bytes_of("examples/counter.session"), GREETING)
+    fails_at_devices([prog], "", bytes_of("examples/counter.session"), GREETING)
     return "the longest lines and payloads, and devices that fail"
 
 
 def call_limits(row):
-    """Arguments through sixty compounds, a faulty configuration, devices that fail, and each reply before the next call."""
-    calls, folder = program("click_calls"), "examples/calls"
-    # A value is passed on without a change; and what stands for nothing is not read again and again: with every level read twice this would not end.
+    """Checks arguments through sixty compounds, a faulty configuration, and failing devices.
+
+    Also checks that each reply is written before the next call is read.
+    """
+    calls, folder = command_of("click_prog --calls"), "examples/calls"
+    # A value is passed on unchanged. If the empty value were expanded again at each level, the time
+    # would double with each of the sixty levels.
     text = "elementclass P0 { $x | input -> Strip($x$x) -> output } elementclass D0 { $x, $y | input -> Strip(1$x) -> output }"
     for level in range(1, 61):
         text += f" elementclass P{level} {{ $x | input -> P{level - 1}($x) -> output }} elementclass D{level} {{ $x, $y | input -> D{level - 1}($x$x, ) -> output }}"
     text += " FromDevice(a) -> P60(1) -> Queue -> ToDevice(b); FromDevice(c) -> D60(,) -> Queue -> ToDevice(d);"
     sent = b"arrive a 000102030405060708090a0b\ntransmit b\narrive c 000102\ntransmit d\n"
-    answered(ran([calls, "-e", text], sent), "arguments through sixty compounds", out=b"entered 1\nsent 0b 0 0.0.0.0\nentered 1\nsent 0102 0 0.0.0.0\n")
+    answered(ran([*calls, "-e", text], sent), "arguments through sixty compounds", out=b"entered 1\nsent 0b 0 0.0.0.0\nentered 1\nsent 0102 0 0.0.0.0\n")
     given, config = bytes_of(f"{folder}/counter.calls"), text_of(f"{folder}/counter.click").rstrip("\n")
-    answered(ran([calls, "-e", "Counter -> Discard;"], given), "a faulty configuration", err=b"31 Count at Counter@1 inputs 0\n", status=1)
+    answered(ran([*calls, "-e", "Counter -> Discard;"], given), "a faulty configuration", err=b"31 Count at Counter@1 inputs 0\n", status=1)
     fails_at_devices(calls, config, given, b"")
-    step_by_step([calls, "-e", config], given, bytes_of(f"{folder}/counter.out"))
-    return "long ways of arguments, devices that fail, and each reply before the next call"
+    step_by_step([*calls, "-e", config], given, bytes_of(f"{folder}/counter.out"))
+    return "arguments through sixty compounds, devices that fail, and each reply before the next call"
 
 
 def step_by_step(words, given, wanted):
-    """Each line is answered before the next is sent."""
+    """Checks that each line is answered before the next one is sent."""
     with subprocess.Popen(words, stdin=subprocess.PIPE, stdout=subprocess.PIPE, bufsize=0) as peer:
         for line, reply in zip(given.splitlines(True), wanted.splitlines(True)):
             peer.stdin.write(line)
@@ -496,14 +533,14 @@ def step_by_step(words, given, wanted):
                 fail(f"no reply to: {line.decode().strip()}")
             same(reply, came, f"the reply to: {line.decode().strip()}")
         peer.stdin.close()
-        same(0, peer.wait(30), "the status of what was called step by step")
+        same(0, peer.wait(30), "the status after calls that wait for each reply")
 
 
 # README's commands
 
 
 def block_after(lines, sign):
-    """The first indented block after a line that begins with the sign."""
+    """Returns the first indented block after a line that begins with `sign`."""
     at = next((at for at, it in enumerate(lines) if it.startswith(sign)), len(lines))
     first = next((first for first in range(at, len(lines)) if lines[first].startswith("    ")), len(lines))
     last = next((last for last in range(first, len(lines)) if not lines[last].startswith("    ")), len(lines))
@@ -511,25 +548,31 @@ def block_after(lines, sign):
 
 
 def commands(row):
-    """The first command that begins with ./run.sh gives the block after `which answers`, and the capture says what stands after `which says`, both as they stand;
-    the toolchain is the one that is named."""
+    """Checks the commands of README.
+
+    The first command that begins with ./run.sh is shown with --quick and without, and prints the
+    block after `which answers`. The capture prints what the page has after `which says`. The
+    toolchain is the one that the page names. tools/run_sh_test.sh tests --quick.
+    """
     page = row.pages[0]
     text, lines = text_of(page), lines_of(page)
-    command = next((it.strip() for it in lines if it.startswith("    ./run.sh")), None)
-    if not command:
-        fail(f"{page} has no indented line that begins with ./run.sh")
+    quick, command = [*(it.strip() for it in lines if it.startswith("    ./run.sh")), None, None][:2]
+    if not command or quick != command.replace("./run.sh ", "./run.sh --quick ", 1):
+        fail(f"the first two indented lines of {page} that begin with ./run.sh are not one command, with --quick and without")
     wanted = block_after(lines, "which answers")
     is_there(wanted, f"the block after 'which answers' in {page}")
-    # Where another program is checked, it stands in the place of ./run.sh, beside what the command reads.
+    # If another program is checked, ./run.sh is a link to it, next to the files that the command
+    # reads.
     with in_folder(("run.sh", program("click_prog")), ("crates", f"{TOP}/crates")) as folder:
         came = ran(["bash", "-c", command], cwd=folder if "PROGRAM" in os.environ else TOP)
-    answered(came._replace(out=came.out.replace(b"\r", b"")), f"{page}'s first command, {command}", out=wanted)
-    # The command may go on in further lines, each behind a backslash. What it writes stays out of the repository.
-    capture = re.search(r"^    (crates/click_pcap/out/(?:.*\\\n)*.*)$", text, re.M)
+    answered(came._replace(out=came.out.replace(b"\r", b"")), f"{page}'s command {command}", out=wanted)
+    # The command may continue on further lines, after backslashes. Its output file is written to a
+    # temporary folder.
+    capture = re.search(r"^    (crates/click_prog/out/click_prog --pcap (?:.*\\\n)*.*)$", text, re.M)
     says = re.search(r"^which says `(.*)`\.$", text, re.M)
     if not capture or not says:
-        fail(f"{page} has no capture, or does not say what it says")
-    with in_folder(("crates/click_pcap/out/click_pcap", program("click_pcap")), ("examples", f"{TOP}/examples")) as folder:
+        fail(f"{page} has no capture command, or no line 'which says'")
+    with in_folder(("crates/click_prog/out/click_prog", program("click_prog --pcap")), ("examples", f"{TOP}/examples")) as folder:
         answered(ran(["bash", "-c", capture[1]], cwd=folder), f"{page}'s capture", err=says[1].encode() + b"\n")
         is_there(os.path.exists(f"{folder}/out.pcap") and os.path.getsize(f"{folder}/out.pcap"), f"what {page}'s capture writes")
     named = re.search(r"`rt version` is `(\S+) (logic \w+)`, or `(\S+)` with the same logic", re.sub(r"\s+", " ", text))
@@ -540,52 +583,59 @@ def commands(row):
 
 
 def tries(row):
-    """The commands that try a program without its proofs: each indented line that goes into a crate's folder, and the indented line after it. What comes is the
-    crate's stored answer, and the block after 'which answers', where one stands before the next of them."""
+    """Checks the commands that compile and run a program without its proofs (`rt try`).
+
+    Each is an indented `cd crates/..` and the indented line after it. Its output is the stored
+    output of that folder, or that of the calls that the command reads. If a block after `which
+    answers` comes before the next such command, it is the output too.
+    """
     page = row.pages[0]
     lines = lines_of(page)
     places = [at for at, it in enumerate(lines) if it.startswith("    cd crates/")]
     is_there(places, f"what {page} tries in a crate's folder")
     for at, end in zip(places, [*places[1:], len(lines)]):
         folder, command = lines[at].split()[1], lines[at + 1]
-        if not command.startswith("    ") or not os.path.exists(f"{TOP}/{folder}/stdout"):
+        calls = re.search(r"< (\S+)\.calls$", command)
+        answer = f"{folder}/{calls[1]}.out" if calls else f"{folder}/stdout"
+        if not command.startswith("    ") or not os.path.exists(f"{TOP}/{answer}"):
             fail(f"{folder}, which {page} goes into, has no command or no stored answer")
         came = ran(["bash", "-c", command.strip()], seconds=900, cwd=f"{TOP}/{folder}")
-        same(bytes_of(f"{folder}/stdout"), came.out, f"in {folder}, {command.strip()}")
+        same(bytes_of(answer), came.out, f"in {folder}, {command.strip()}")
         same(0, came.status, f"the status in {folder} of {command.strip()}")
         shown = block_after(lines[at:end], "which answers")
-        if shown or at == places[0]:
+        if shown:
             same(shown, came.out.replace(b"\r", b""), f"in {folder}, {command.strip()}, and what {page} shows")
     return f"{len(places)} programs tried in their folders as it shows"
 
 
 Row = namedtuple("Row", "pages programs kind")
 TABLE = (
-    Row(["README.md"], ["click_prog", "click_pcap"], commands),
+    Row(["README.md"], ["click_prog", "click_prog --pcap"], commands),
     Row(["README.md"], [], tries),
     Row(["docs/CONTROL.md"], ["click_prog"], dialogue),
     Row(["docs/CONTROL.md"], ["click_prog"], client),
     Row(["docs/HOTSWAP.md"], ["click_prog"], dialogue),
-    Row(["docs/HOTSWAP.md"], ["click_calls"], dialogue),
-    Row(["docs/CALLS.md"], ["click_calls"], dialogue),
-    Row(["docs/PCAP.md"], ["click_pcap"], captures),
+    Row(["docs/HOTSWAP.md"], ["click_prog --calls"], dialogue),
+    Row(["docs/CALLS.md"], ["click_prog --calls"], dialogue),
+    Row(["docs/PCAP.md"], ["click_prog --pcap"], captures),
     Row(["docs/LINKS.md"], ["click_prog"], script),
     Row(["docs/PICTURE.md", "examples", "examples/calls", "examples/gateway", "examples/pcap"], ["click_prog"], pictures),
-    Row(["docs/FEEDS.md", "crates/click_desk_tests/src/drivers.rt"], [], driver),
-    Row(["docs/FAULTS.md", *FAULT_KINDS], ["click_prog", "click_bench"], faults),
-    Row(["docs/ELEMENTS.md"], ["click_calls"], sections),
-    Row(["examples/readings.txt", "docs/LANGUAGE.md", "docs/ELEMENTS.md"], ["click_prog", "click_bench"], readings),
-    Row(["examples/texts.txt"], ["click_bench"], texts),
+    Row(["docs/FEEDS.md", "crates/click_tests/src/drivers.rt"], [], driver),
+    Row(["docs/FAULTS.md", *FAULT_KINDS], ["click_prog", "click_player"], faults),
+    Row(["docs/ELEMENTS.md"], ["click_prog --calls"], sections),
+    Row(["examples/readings.txt", "docs/LANGUAGE.md", "docs/ELEMENTS.md"], ["click_prog", "click_player"], readings),
+    Row(["examples/texts.txt"], ["click_player"], texts),
     Row(["examples/faults.txt"], ["click_prog"], refused),
     Row(["examples/opens.txt"], ["click_prog"], opens),
-    Row(["examples/arguments.txt"], ["click_prog", "click_calls", "click_pcap"], arguments),
+    Row(["examples/arguments.txt"], ["click_prog", "click_prog --calls", "click_prog --pcap"], arguments),
     Row(["examples"], ["click_prog"], files),
     Row(["examples/counter.session"], ["click_prog"], limits),
-    Row(["examples/calls"], ["click_calls"], files),
-    Row(["examples/books"], ["click_prog", "click_calls"], books),
-    Row(["examples/calls/wrong_lines.txt"], ["click_calls"], wrong_lines),
-    # A program that is run to its end before anything is written answers too late, which is seen last of all.
-    Row(["examples/calls/counter.calls"], ["click_calls"], call_limits),
+    Row(["examples/calls"], ["click_prog --calls"], files),
+    Row(["examples/books"], ["click_prog", "click_prog --calls"], books),
+    Row(["examples/calls/wrong_lines.txt"], ["click_prog --calls"], wrong_lines),
+    # This row checks that replies are not late. A wrapper that runs a program to its end before it
+    # writes fails here, so this row is the last one.
+    Row(["examples/calls/counter.calls"], ["click_prog --calls"], call_limits),
 )
 
 
@@ -595,8 +645,8 @@ def main(words):
         file, page, *words = words[1:]
         stand_ins[page] = os.path.realpath(file)
         rows = [it for it in rows if any(page == at or page.startswith(f"{at}/") for at in it.pages)]
-    kinds, programs = {it.kind.__name__ for it in TABLE} & set(words), set(ENVIRONMENT) & set(words)
-    rows = [it for it in rows if (not kinds or it.kind.__name__ in kinds) and (not programs or programs & set(it.programs))]
+    kinds, programs = {it.kind.__name__ for it in TABLE} & set(words), set(VARIABLES) & set(words)
+    rows = [it for it in rows if (it.kind.__name__ in kinds if kinds else it.kind is not tries) and (not programs or programs & set(it.programs))]
     if not rows or set(words) - kinds - programs:
         sys.exit(f"examples.py: no row has this: {' '.join(words)}")
     for row in rows:

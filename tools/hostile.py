@@ -1,9 +1,12 @@
-"""Use that means no good: devices that fail, too little memory, input without end, clients that hang up, send rubbish or never read, and as many sessions and drivers as
-there may be. What comes back is held, byte by byte, against what docs/CONTROL.md says.
+"""Checks the program under hostile use: failing devices, limits of memory, endless input, and
+clients that hang up, send rubbish or never read. Others are 64 sessions in parallel with 16
+drivers, the address of the listener, --readonly with drivers, and 200,000 rounds. The replies have
+to be, byte by byte, what docs/CONTROL.md says.
 
     hostile.py PROGRAM CASE
 
-Each case takes at most some 20 seconds, and listens at most on a free port of 127.0.0.1. Where something is wrong it says what, and ends with 1.
+A case takes at most some 20 seconds. If it uses TCP, it listens on a free port of 127.0.0.1. A
+failure is printed, and ends the script with status 1.
 """
 import os
 import random
@@ -21,7 +24,7 @@ SOURCE = b"InfiniteSource(ab, 1000000, 1) -> c :: Counter -> Discard;"
 GOODBYE = b"200 Goodbye!\r\n"
 NO_MEMORY = b"520 Out of memory\r\n"
 MEGABYTE = 1 << 20
-# By so many KB may the most memory of a long run be above that of a short one.
+# The maximum difference, in KB, between the peak memory of a long run and that of a short one.
 FLAT = 300
 
 
@@ -38,14 +41,14 @@ def denial(handler):
 
 
 def same(wanted, came, what):
-    """These bytes came, and no others."""
+    """Checks that two byte strings are equal, and reports the first difference."""
     if wanted != came:
         at = len(os.path.commonprefix([wanted, came]))
         raise Wrong(f"{what}: at byte {at} of {len(wanted)}: wanted {wanted[at:at + 60]!r}, came {came[at:at + 60]!r}")
 
 
 def until(holds, what):
-    """Asks over and over until it holds."""
+    """Waits until `holds` returns true; raises Wrong if it takes too long."""
     ends = time.monotonic() + SECONDS
     while not holds():
         if time.monotonic() > ends:
@@ -54,7 +57,7 @@ def until(holds, what):
 
 
 def listeners(port):
-    """The addresses, in the digits of /proc, at which somebody listens on this port."""
+    """Returns the addresses, in hex digits as in /proc, at which a process listens on a port."""
     found = []
     for table in ("/proc/net/tcp", "/proc/net/tcp6"):
         if os.path.exists(table):
@@ -67,23 +70,26 @@ def listeners(port):
 
 
 class Listening(Router):
-    """The program once it listens for so many sessions, or has ended before it could; with a limit it has no more memory than so many KB."""
+    """A program that listens for a number of sessions, on a free port.
+
+    With a limit of memory, in KB, it may also have ended before it could listen.
+    """
 
     def __init__(self, program, text, sessions, *options, limit=None):
         for _ in range(5):
             self.port = free_port()
             words = [*limited(limit), program, "-e", text, "-p", str(self.port), "-n", str(sessions), *options]
             self.process = subprocess.Popen(words, stdin=subprocess.DEVNULL, stdout=subprocess.PIPE, stderr=subprocess.PIPE)
-            until(lambda: listeners(self.port) or self.process.poll() is not None, "nobody listens")
+            until(lambda: listeners(self.port) or self.process.poll() is not None, "the program does not listen")
             status = self.process.poll()
-            # It ends with status 4 where the port was taken in between.
+            # The program ends with status 4 if another process took the port in the meantime.
             if status is None or limit and status != 4:
                 return
-        raise Wrong("the program does not go on")
+        raise Wrong("the program could not listen in five attempts")
 
 
 class Pipes:
-    """The two ends of a program's standard input and output, in the words of a socket."""
+    """The standard input and output of a program, with the methods of a socket."""
 
     def __init__(self, process):
         self.process = process
@@ -111,32 +117,32 @@ class Alone(Session):
             raise Wrong("another greeting")
 
     def exchange(self, sent, wanted, times=1):
-        """Sends this so many times, while that comes so many times."""
+        """Sends `sent` a number of times, and in parallel reads `wanted` as many times."""
 
         def sends():
             try:
                 for _ in range(times):
                     self.socket.sendall(sent)
             except BrokenPipeError:
-                pass  # what comes says why
+                pass  # the reader reports the failure
 
         def reads():
             try:
                 for _ in range(times):
                     same(wanted, self.bytes(len(wanted)), "a session on standard input")
             except Wrong:
-                self.process.kill()  # so that nobody goes on to send
+                self.process.kill()  # ends the sender
                 raise
 
         all_at_once([reads, sends])
 
     def most_memory(self):
-        """The most memory, in KB, that it had until now."""
+        """Returns the peak memory of the program, in KB."""
         with open(f"/proc/{self.process.pid}/status", encoding="ascii") as rows:
             return next(int(row.split()[1]) for row in rows if row.startswith("VmHWM:"))
 
     def ends(self):
-        """It ends by itself, without a further word."""
+        """Checks that the program ends after QUIT, with status 0 and no further output."""
         self.quit()
         out, err, status = self.process.stdout.read(), self.process.stderr.read(), self.process.wait(SECONDS)
         if (out, err, status) != (b"", b"", 0):
@@ -148,25 +154,31 @@ class Alone(Session):
 
 
 def ended(what, wanted, status, words, **how):
-    """A run ends with this status, with these bytes on standard output where that can be read, and nothing on standard error."""
+    """Checks that a run ends with this status and standard output, and an empty standard error.
+
+    If standard output is not read, `wanted` is empty.
+    """
     it = subprocess.run(words, stderr=subprocess.PIPE, timeout=SECONDS, check=False, **how)
     if (it.stdout or b"", it.stderr, it.returncode) != (wanted, b"", status):
         raise Wrong(f"{what}: status {it.returncode}, {it.stdout!r} and {it.stderr!r}")
 
 
 def devices(program):
-    """Standard output that is full, closed or only to be read, and standard input that is a folder, closed or only to be written."""
+    """Checks failing devices.
+
+    Standard output is full, closed or read-only. Standard input is a folder, closed or write-only.
+    """
     session = {"input": b"READ c.count\nQUIT\n"}
     for options in ([], ["--readonly"], ["-w", "2", "--rounds", "100"]):
         words = [program, "-e", COUNTER, *options]
-        ended("all is well", GREETING + read_reply(b"c.count", b"0") + GOODBYE, 0, words, stdout=subprocess.PIPE, **session)
+        ended("devices that work", GREETING + read_reply(b"c.count", b"0") + GOODBYE, 0, words, stdout=subprocess.PIPE, **session)
         with open("/dev/full", "wb") as full, open("/dev/null", "rb") as only_read:
             ended("a full output", b"", 4, words, stdout=full, **session)
-            ended("an output that is only to be read", b"", 4, words, stdout=only_read, **session)
+            ended("a read-only output", b"", 4, words, stdout=only_read, **session)
         folder = os.open("/", os.O_RDONLY)
         with open("/dev/null", "wb") as only_written:
             ended("a folder as input", GREETING, 4, words, stdin=folder, stdout=subprocess.PIPE)
-            ended("an input that is only to be written", GREETING, 4, words, stdin=only_written, stdout=subprocess.PIPE)
+            ended("a write-only input", GREETING, 4, words, stdin=only_written, stdout=subprocess.PIPE)
         os.close(folder)
         shell = ["/bin/sh", "-c"]
         ended("a closed output", b"", 4, [*shell, 'exec "$0" "$@" >&-', *words], **session)
@@ -175,7 +187,10 @@ def devices(program):
 
 
 class Spoken:
-    """A session that takes memory: its bytes, and what may come of them. A command for which memory runs out is answered so and changes nothing."""
+    """The input of a session that needs memory, and a check of its output.
+
+    A command may be answered with out of memory, and then has to change nothing.
+    """
 
     FIRST = b"FromDevice(a) -> q :: Queue(5) -> ToDevice(b);"
     NEXT = b"FromDevice(a) -> q :: Queue(2000) -> ToDevice(b); " + b"Idle -> Discard; " * 500
@@ -195,7 +210,7 @@ class Spoken:
         self.input = b"".join(sent for sent, _ in self.steps) + b"QUIT\n"
 
     def reply(self, sent, config):
-        """What a command is answered while this configuration runs."""
+        """Returns the reply to a command while this configuration runs."""
         handler = sent.split()[1]
         if sent.startswith(b"WRITE"):
             return write_reply(handler)
@@ -203,7 +218,11 @@ class Spoken:
         return read_reply(handler, {b"q.length": b"0", b"config": config, b"list": b"%d\n%s\n" % (len(names), b"\n".join(names))}[handler])
 
     def refused(self, out, is_whole):
-        """How many commands of the session were answered by want of memory; None where what came is not the session's whole output, nor a front where that will do."""
+        """Returns the number of commands that were answered with out of memory.
+
+        Returns None if `out` is not an output of the session. If `is_whole` is false, a prefix of
+        an output will do.
+        """
         at, config, count = 0, self.FIRST, 0
         for sent, text in [(GREETING, None), *self.steps, (GOODBYE, None)]:
             reply = sent if sent in (GREETING, GOODBYE) else self.reply(sent, config)
@@ -212,18 +231,21 @@ class Spoken:
             elif reply is not sent and out.startswith(NO_MEMORY, at):
                 at, count = at + len(NO_MEMORY), count + 1
             else:
-                is_front = reply.startswith(out[at:]) or NO_MEMORY.startswith(out[at:])
-                return count if is_front and not is_whole else None
+                is_prefix = reply.startswith(out[at:]) or NO_MEMORY.startswith(out[at:])
+                return count if is_prefix and not is_whole else None
         return count if at == len(out) else None
 
 
 def limited(limit):
-    """The words before a command that let it have no more memory than so many KB."""
+    """Returns the words to put before a command so that its memory is limited to this many KB."""
     return ["/bin/sh", "-c", 'ulimit -S -v "$0" && exec "$@"', str(limit)] if limit else []
 
 
 def by_halves(low, high, most, holds):
-    """The least number that holds, or one that is more by at most so much: not `low`, but `high`."""
+    """Returns a number for which `holds` is true, at most `most` above the least one.
+
+    It is false for `low` and true for `high`. The search is binary.
+    """
     while high - low > most:
         middle = (low + high) // 2
         low, high = (low, middle) if holds(middle) else (middle, high)
@@ -231,26 +253,33 @@ def by_halves(low, high, most, holds):
 
 
 def at_limits(run, what):
-    """Tries 40 limits of memory from the least at which the loader works to plenty. What `run` answers is a status, and how many commands were refused."""
+    """Checks runs with 40 limits of memory, from the least with which the loader works to plenty.
+
+    `run` takes a limit and returns the status and the number of commands that were refused.
+    """
     plenty = 1_000_000
     least = by_halves(0, plenty, 4, lambda limit: run(limit)[0] in (0, 3))
     below = run(least - 8)[0]
     if below != 127:
-        raise Wrong(f"{what}: with {least - 8} KB of memory it is not the loader that ends it, but status {below}")
+        raise Wrong(f"{what}: with {least - 8} KB of memory the status is {below}, and not 127, that of the loader")
     enough = by_halves(least, plenty, 1000, lambda limit: run(limit) == (0, 0))
-    came = set()
+    seen = set()
     for limit in [*(int(least * (enough / least) ** (step / 38)) for step in range(39)), plenty]:
         status, count = run(limit)
         if status not in (0, 3):
             raise Wrong(f"{what}, with {limit} KB of memory: status {status}")
-        came |= {"refused"} if count else {"whole"} if status == 0 else set()
-        came |= {"early"} if status == 3 else set()
-    if came != {"whole", "early", "refused"}:
-        raise Wrong(f"{what}: from {least} to {enough} KB of memory all that came is {sorted(came)}")
+        seen |= {"refused"} if count else {"whole"} if status == 0 else set()
+        seen |= {"early"} if status == 3 else set()
+    if seen != {"whole", "early", "refused"}:
+        raise Wrong(f"{what}: from {least} to {enough} KB of memory the only outcomes are {sorted(seen)}")
 
 
 def judged(spoken, status, outs, said, limit):
-    """A run's status, and how many commands of its sessions were refused. They are whole where the status is 0, and fronts where it is 3."""
+    """Returns the status of a run and the number of commands that its sessions refused, and checks
+    it.
+
+    The outputs of the sessions are complete if the status is 0, and prefixes if it is 3.
+    """
     if status not in (0, 3):
         return status, 0
     counts = [spoken.refused(out, status == 0) for out in outs or [b""]]
@@ -260,7 +289,7 @@ def judged(spoken, status, outs, said, limit):
 
 
 def talk(port, sent):
-    """All that comes of a session, which may break off anywhere."""
+    """Returns the output of a session over TCP, which may end anywhere."""
     came = b""
 
     def sends(it):
@@ -280,7 +309,11 @@ def talk(port, sent):
 
 
 def memory(program):
-    """Limits of memory, for a session alone, with drivers beside it, and for sessions over TCP: each limit ends with status 0 or 3, and just the bytes that it may."""
+    """Checks limits of memory: for a session, for a session with drivers, and for sessions over
+    TCP.
+
+    At each limit the program ends with status 0 or 3, and writes no wrong byte.
+    """
     swapping, plain = Spoken(swaps=True), Spoken(swaps=False)
 
     def alone(limit, *options):
@@ -299,12 +332,12 @@ def memory(program):
             router.stop()
 
     at_limits(alone, "a session")
-    at_limits(lambda limit: alone(limit, "-w", "2", "--rounds", "200"), "a session beside drivers")
+    at_limits(lambda limit: alone(limit, "-w", "2", "--rounds", "200"), "a session with drivers")
     at_limits(over_tcp, "sessions over TCP")
 
 
 def blank(program):
-    """131 MB of blank lines take no memory."""
+    """Checks that memory does not grow over 131 MB of blank lines."""
     it = Alone(program, COUNTER)
     try:
         lines = b"\n\r\n\r \t\n \r\n" * (MEGABYTE // 10)
@@ -322,7 +355,7 @@ def blank(program):
 
 
 def without_calls():
-    """A megabyte of commands that a read-only session answers without a call, and their replies."""
+    """Returns a megabyte of commands that make no call in a read-only session, and the replies."""
     word, payload = b"X" * 60_000, b"READ c.count\nQUIT\r\n" * 5_000
     once = [
         (b"READ\n", b"500 Syntax error\r\n"),
@@ -344,7 +377,7 @@ def without_calls():
 
 
 def commands(program):
-    """100 MB of commands that make no call take no memory."""
+    """Checks that memory does not grow over 100 MB of commands that make no call."""
     it = Alone(program, COUNTER, "--readonly")
     try:
         sent, wanted = without_calls()
@@ -360,12 +393,12 @@ def commands(program):
 
 
 def switches(count):
-    """A configuration with a switch for each of so many sessions."""
+    """Returns a configuration with a switch for each of `count` sessions."""
     return b" ".join(b"Idle -> s%d :: Switch(0) -> Discard; s%d [1] -> Discard;" % (at, at) for at in range(count))
 
 
 def own_session(at, config):
-    """What a session asks of its own switch, and what it is answered, whatever others do."""
+    """Returns the input of a session that uses its own switch, and the expected output."""
     switch, sent, wanted = b"s%d.switch" % at, [], []
     for turn in range(20):
         value = b"%d" % ((at + turn) % 2)
@@ -376,15 +409,15 @@ def own_session(at, config):
 
 
 def meets(all_here):
-    """Waits until all clients have come."""
+    """Waits until all clients are connected."""
     try:
         all_here.wait(SECONDS)
     except threading.BrokenBarrierError:
-        raise Wrong("not all sessions are let in") from None
+        raise Wrong("not all sessions were accepted") from None
 
 
 def goes_on(session, at, config):
-    """A client sends its session in pieces, and gets just what it has to."""
+    """Sends a session in pieces of random sizes, and checks its whole output."""
     sent, wanted = own_session(at, config)
     chance = random.Random(at)
     while sent:
@@ -399,29 +432,31 @@ def goes_on(session, at, config):
 
 
 def resets(session):
-    """Closes so that what the program reads and writes fails."""
+    """Closes a connection with a reset, so that reads and writes of the program fail."""
     session.socket.setsockopt(socket.SOL_SOCKET, socket.SO_LINGER, struct.pack("ii", 1, 0))
     session.socket.close()
 
 
-# What clients cut: reads and writes, with payloads, and then one that would swap, of which so many statements come.
+# What clients send partially: reads and writes with payloads, and then the first line of a swap,
+# whose payload would consist of statements.
 FRONT = b"READ c.count\nWRITEDATA h.switch 1\r\n1READDATA h.switch 1000\n" + b"y" * 1000 + b"WRITEDATA hotconfig 60001\n"
 STATEMENT = b"Idle -> Discard; "
 
 
 def hangs_up(session, at, _):
-    """Leaves in a payload that is a configuration as far as it has come."""
+    """Hangs up in a payload; the part that was sent is a complete configuration."""
     session.socket.sendall(FRONT + STATEMENT * (100 * at))
     session.socket.close()
 
 
 def breaks_off(session, at, _):
+    """Sends a part of a session and resets the connection."""
     session.socket.sendall(FRONT[: len(FRONT) * at // 32])
     resets(session)
 
 
 def garbles(session, at, _):
-    """Sends rubbish and hangs up, without a look at what comes."""
+    """Sends rubbish and hangs up, without reading."""
     try:
         session.socket.sendall(random.Random(at).randbytes(200_000))
     except OSError:
@@ -430,7 +465,7 @@ def garbles(session, at, _):
 
 
 def garbles_and_reads(session, at, _):
-    """Sends rubbish, and reads to the end."""
+    """Sends rubbish and reads to the end."""
     rubbish = random.Random(at).randbytes(20_000).replace(b"\r", b"\n")
     session.socket.sendall(rubbish)
     session.socket.shutdown(socket.SHUT_WR)
@@ -440,13 +475,13 @@ def garbles_and_reads(session, at, _):
 
 
 def never_reads(session, _, others):
-    """Sends until the program cannot write its replies any more, and stays until the others have ended."""
+    """Sends until the program can write no more replies, and stays until the other sessions end."""
     session.socket.settimeout(1)
     try:
         while True:
             session.socket.sendall(b"X" * 60_000 + b"\nREAD config\n")
     except OSError:
-        pass  # the program waits for it to read
+        pass  # the program waits until the client reads
     others.wait(3 * SECONDS)
     resets(session)
 
@@ -459,6 +494,7 @@ class Unread:
 
 
 def leaves_at_once(session, at, _):
+    """Closes or resets the connection before it has read the greeting."""
     if at % 16 < len(MEANS):
         resets(session)
     else:
@@ -466,11 +502,13 @@ def leaves_at_once(session, at, _):
 
 
 def says_nothing(session, _, others):
+    """Sends nothing, and stays until the other sessions end."""
     others.wait(3 * SECONDS)
     session.socket.close()
 
 
 def stays_in_a_payload(session, _, others):
+    """Sends the beginning of a payload, and stays until the other sessions end."""
     session.socket.sendall(b"WRITEDATA hotconfig 1048576\nIdle -> Discard;")
     others.wait(3 * SECONDS)
     session.socket.close()
@@ -480,13 +518,14 @@ MEANS = (hangs_up, breaks_off, garbles, garbles_and_reads, never_reads, leaves_a
 
 
 def neighbours(program):
-    """32 sessions come to no good end; 32 beside them are exact."""
+    """Checks that 32 sessions get exactly their replies while 32 others misbehave."""
     config = switches(32) + b" Idle -> h :: Switch(0) -> Discard; h [1] -> Discard; " + COUNTER
     router = Listening(program, config, 64)
     all_here, others, left = threading.Barrier(64), threading.Event(), [32]
     lock = threading.Lock()
 
     def good(at):
+        """Runs a session that has to get exactly its replies."""
         session = Session(router)
         meets(all_here)
         try:
@@ -498,6 +537,7 @@ def neighbours(program):
                 others.set()
 
     def bad(at):
+        """Runs a session that misbehaves."""
         means = MEANS[at % len(MEANS)]
         session = (Unread if means is leaves_at_once else Session)(router)
         meets(all_here)
@@ -505,14 +545,17 @@ def neighbours(program):
 
     try:
         all_at_once([*(lambda at=at: good(at) for at in range(32)), *(lambda at=at: bad(at) for at in range(32))])
-        # A read or a write of some of them failed.
+        # Status 4, because a read or a write of some sessions failed.
         router.ends(4)
     finally:
         router.stop()
 
 
 def crowd(program):
-    """64 sessions beside 16 drivers: all are there at once, each is exact, and the drivers make all their rounds."""
+    """Checks 64 sessions at the same time, in parallel with 16 drivers.
+
+    Each session gets exactly its replies, and the drivers make all their rounds.
+    """
     config = switches(64) + b" " + SOURCE
     router = Listening(program, config, 64, "-w", "16", "--rounds", "500")
     all_here = threading.Barrier(64)
@@ -532,19 +575,19 @@ def crowd(program):
 
 
 def counts_to(session, wanted):
-    """The counter comes to this number, and stays there."""
+    """Waits until the counter reaches this number, and checks that it stays there."""
     until(lambda: int(session.read(b"c.count")) >= wanted, "the drivers do not make all their rounds")
     for _ in range(20):
         same(b"%d" % wanted, session.read(b"c.count"), "the packets of the drivers' rounds")
 
 
 def local(program):
-    """It listens at 127.0.0.1 alone."""
+    """Checks that the program listens at 127.0.0.1 only."""
     router = Listening(program, COUNTER, 2, "-w", "1", "--rounds", "10")
     try:
         for _ in range(2):
             if listeners(router.port) != ["0100007F"]:
-                raise Wrong(f"it listens at {listeners(router.port)}")
+                raise Wrong(f"the program listens at {listeners(router.port)}")
             Session(router).quit()
         router.ends(0)
     finally:
@@ -552,7 +595,7 @@ def local(program):
 
 
 def is_denied(session):
-    """A session that only reads writes nothing, while drivers make 1,000 rounds."""
+    """Checks that a read-only session changes nothing, while drivers make 1,000 rounds."""
     for sent, handler in [
         (b"WRITE c.reset_counts\n", b"c.reset_counts"),
         (b"WRITEDATA c.reset_counts 2\r\nab", b"c.reset_counts"),
@@ -562,13 +605,13 @@ def is_denied(session):
         (b"CHECKWRITE hotconfig\n", b"hotconfig"),
         (b"WRITE x.y\n", b"x.y"),
     ] * 20:
-        same(denial(handler), b"".join(session.ask(sent)[1]), f"{sent!r} in a session that only reads")
+        same(denial(handler), b"".join(session.ask(sent)[1]), f"{sent!r} in a read-only session")
     counts_to(session, 1000)
-    same(SOURCE, session.read(b"config"), "what runs beside a session that only reads")
+    same(SOURCE, session.read(b"config"), "the configuration after the writes of a read-only session")
 
 
 def readonly(program):
-    """Sessions that only read, beside two drivers: on standard input, and over TCP."""
+    """Checks read-only sessions with two drivers, on standard input and over TCP."""
     options = ["--readonly", "-w", "2", "--rounds", "500"]
     it = Alone(program, SOURCE, *options)
     try:
@@ -591,7 +634,7 @@ def readonly(program):
 
 
 def rounds(program):
-    """A driver makes 200,000 rounds, and no more."""
+    """Checks that a driver makes exactly 200,000 rounds."""
     router = Listening(program, SOURCE, 1, "-w", "1", "--rounds", "200000")
     try:
         session = Session(router)

@@ -1,14 +1,23 @@
 #!/usr/bin/env python3
-"""Tries the page over a running router: by plain sockets what it answers and refuses, and in a headless Chromium what an operator sees and does.
+"""Checks the page of a running router, by plain sockets and in a headless Chromium. By sockets:
+foreign hosts, writes without the header, and slow, large and many requests, while a session is
+answered. In the browser: the picture, live counters, a write that a session sees, and swaps by the
+page and by a session.
 
     tools/page.py [--part sockets|browser] [--shots FOLDER] [PROGRAM [WORD..]]
     tools/page.py --mock [--wrong WHAT] [--part sockets|browser] [--shots FOLDER]
     tools/page.py --wrongs [WHAT..]
 
-The router is PROGRAM WORD.. -e TEXT --live -p P -w 1 --page Q, with crates/click_prog/out/click_prog where no program is given; with --mock it is
-tools/page_mock.py, which can be wrong in one point. --wrongs has it be wrong in each point, or in these, one after another: the check of that point has to
-fail. --shots writes pictures of the page over four configurations. Chromium is Debian's (apt-get install chromium); where there is none the browser's part is
-left out, and so are pictures. The last line is 'N passed, M failed', and the status 1 where a check failed.
+The router is started as PROGRAM WORD.. -e TEXT --live -p P -w 1 --page Q. If no program is given,
+it is the one that the variable PROGRAM names, or else the proved one. With --mock it is
+tools/page_mock.py, which --wrong makes wrong in one point.
+
+--wrongs shows that the checks can fail. It makes the mock wrong in each point, or only in these.
+The check of that point has to fail. --shots writes screenshots of the page over four
+configurations.
+
+Chromium is Debian's (apt-get install chromium). Without it the part `browser` and the screenshots
+are left out. The last line is 'N passed, M failed', and the status is 1 if a check failed.
 """
 import argparse
 import base64
@@ -30,18 +39,21 @@ import page_mock  # noqa: E402
 TOP = os.path.dirname(os.path.dirname(os.path.realpath(__file__)))
 sys.path.insert(0, f"{TOP}/tools/lib")
 from chromium import Browser, BrowserFault  # noqa: E402
+from programs import path_of  # noqa: E402
 
-# How long a head may take to come before the router gives up, and how long anything else may take.
+# The maximum seconds until the router ends a slow request head, and until anything else happens.
 PATIENCE, SECONDS = 60, 10
 
 
 def text_of(path):
+    """Returns the text of a file of the repository."""
     with open(f"{TOP}/{path}", encoding="utf-8", newline="") as it:
         return it.read()
 
 
 WATCHED, SWAPPED = text_of("tools/page_mock/watched.click"), text_of("tools/page_mock/swapped.click")
-# The elements of these in flat order, and how many connections there are, worked out by hand.
+# The elements of these configurations in flat order, and their numbers of connections, worked out
+# by hand.
 WATCHED_NAMES = "InfiniteSource@1 c s left/c left/q Unqueue@5 Discard@6 right/c right/q Idle@8 Idle@9 rt Discard@11".split()
 SWAPPED_NAMES = "InfiniteSource@1 c fresh Discard@4".split()
 WATCHED_CONNECTIONS, SWAPPED_CONNECTIONS = 11, 3
@@ -49,16 +61,17 @@ SHOTS = {"ip_router": "examples/calls/ip_router.click", "counter": "examples/cou
 
 
 class Wrong(Exception):
-    """What a check found."""
+    """A failed check; the text says what is wrong."""
 
 
 def same(wanted, came, what):
+    """Checks that two values are equal."""
     if wanted != came:
         raise Wrong(f"{what}: wanted {wanted!r:.300}, came {came!r:.300}")
 
 
 def until(is_so, what, seconds=SECONDS):
-    """Waits for something; what it was last, where that never came."""
+    """Waits until `is_so` returns something true, and returns it; raises Wrong after `seconds`."""
     ends = time.monotonic() + seconds
     while not (value := is_so()):
         if time.monotonic() > ends:
@@ -68,12 +81,13 @@ def until(is_so, what, seconds=SECONDS):
 
 
 class Tally:
-    """The checks so far."""
+    """The number of checks that passed, and the names of those that failed."""
 
     def __init__(self):
         self.passed, self.failed = 0, []
 
     def check(self, what, act, *words):
+        """Makes a check, and prints whether it passed."""
         try:
             act(*words)
         except (Wrong, BrowserFault, OSError, ValueError, KeyError, IndexError, TypeError, AttributeError) as error:
@@ -84,7 +98,7 @@ class Tally:
             print(f"passed  {what}", flush=True)
 
 
-# ---- The router, and those who speak with it
+# ---- The router and its clients
 
 
 def free_ports(count):
@@ -96,7 +110,7 @@ def free_ports(count):
 
 
 def answers(port):
-    """Whether somebody listens there."""
+    """Returns whether a process listens on this port."""
     try:
         socket.create_connection(("127.0.0.1", port), timeout=SECONDS).close()
         return True
@@ -105,7 +119,7 @@ def answers(port):
 
 
 class Router:
-    """A router that stays, with a driver, sessions at `port` and a page at `page`."""
+    """A live router with a driver, sessions at `port` and a page at `page`."""
 
     def __init__(self, command, text, *options):
         self.port, self.page = free_ports(2)
@@ -136,7 +150,7 @@ class Session:
     """A control session (docs/CONTROL.md)."""
 
     def __init__(self, router):
-        until(lambda: answers(router.port), "sessions are taken")
+        until(lambda: answers(router.port), "sessions are accepted")
         self.socket = socket.create_connection(("127.0.0.1", router.port), timeout=SECONDS)
         self.file = self.socket.makefile("rwb")
         same(b"Click::ControlSocket/1.3\r\n", self.file.readline(), "the greeting of a session")
@@ -162,13 +176,13 @@ class Session:
 
 
 class Answer:
-    """What was answered: the status, the fields in order, and the body."""
+    """An HTTP response: its status, its header fields in order, and its body."""
 
     def __init__(self, came):
         head, _, self.body = came.partition(b"\r\n\r\n")
         first, *lines = head.decode("latin-1").split("\r\n")
         if not re.match(r"HTTP/1\.1 \d{3}( |$)", first):
-            raise Wrong(f"no answer of HTTP: {came[:200]!r}")
+            raise Wrong(f"not an HTTP response: {came[:200]!r}")
         self.status = int(first[9:12])
         self.fields = [(name.lower(), value.strip()) for name, _, value in (line.partition(":") for line in lines)]
 
@@ -180,7 +194,7 @@ class Answer:
 
 
 def received(peer, seconds=SECONDS):
-    """All that comes until the peer closes."""
+    """Returns all bytes until the peer closes; raises Wrong if it does not within `seconds`."""
     came, ends = b"", time.monotonic() + seconds
     while True:
         peer.settimeout(max(0.01, ends - time.monotonic()))
@@ -196,7 +210,10 @@ def received(peer, seconds=SECONDS):
 
 
 class Client:
-    """Requests to a page, each over a connection of its own. It keeps all answers, for what is to be said of each."""
+    """A client of a page, with one connection for each request.
+
+    It keeps all responses, because some checks hold for each of them.
+    """
 
     def __init__(self, router, session):
         self.router, self.session, self.answers = router, session, []
@@ -205,7 +222,7 @@ class Client:
         return socket.create_connection(("127.0.0.1", self.router.page), timeout=SECONDS)
 
     def send(self, sent):
-        """What raw bytes are answered."""
+        """Sends raw bytes and returns the response."""
         with self.connect() as peer:
             # A router that refuses early may close before all has been sent.
             with contextlib.suppress(ConnectionError):
@@ -224,11 +241,11 @@ class Client:
 MARK = "x-click-page: 1"
 
 
-# ---- By sockets: what is answered
+# ---- By sockets: requests that are answered
 
 
 def policy_of(page):
-    """The policy that lets in the page's one script."""
+    """Returns the content security policy that allows the only script of the page."""
     scripts = re.findall(rb"<script[^>]*>(.*?)</script>", page, re.S)
     same(1, len(scripts), "scripts of the page")
     digest = base64.b64encode(hashlib.sha256(scripts[0]).digest()).decode()
@@ -293,7 +310,7 @@ def wants_methods(client):
     same(404, client.ask("/nothing").status, "GET /nothing")
 
 
-# ---- By sockets: what is refused
+# ---- By sockets: requests that are refused
 
 
 def refuses_hosts(client):
@@ -310,7 +327,7 @@ def refuses_targets(client):
 
 
 def refuses_foreign_posts(client):
-    """What a form of a foreign page, or its script, can send without being let to."""
+    """Checks requests that a form or script of a foreign page can send without permission."""
     session = client.session
     before = session.read("config"), session.read("s.switch")
     for kind in ("text/plain", "application/x-www-form-urlencoded", "multipart/form-data; boundary=x"):
@@ -321,7 +338,7 @@ def refuses_foreign_posts(client):
 
 
 def lets_nobody_in(client):
-    """Each answer of this run, and those to a browser that asks beforehand."""
+    """Checks that no response of this run, also to preflight requests, permits foreign pages."""
     fields = ["origin: http://evil.example", "access-control-request-method: POST", "access-control-request-headers: x-click-page"]
     same(405, client.ask("/swap", "OPTIONS", fields=fields).status, "OPTIONS /swap")
     client.ask("/read?handler=config", fields=["origin: http://evil.example"])
@@ -352,7 +369,8 @@ def limits_heads(client):
     sent = f"GET / HTTP/1.1\r\nhost: 127.0.0.1:{client.router.page}\r\nx-filler: ".encode() + b"x" * 65000
     ends = time.monotonic() + SECONDS
     with client.connect() as peer:
-        # A router that closes with bytes unread resets the connection: after the limit they come a few at a time.
+        # A router that closes with unread bytes resets the connection. So after the limit only a
+        # few bytes are sent at a time.
         while not select.select([peer], [], [], 0.05)[0]:
             if time.monotonic() > ends:
                 raise Wrong("a head of more than 64 KiB is not answered")
@@ -364,13 +382,13 @@ def limits_heads(client):
 
 def limits_bodies(client):
     same(200, client.ask("/write?handler=x.y", "POST", b"x" * 1048576, [MARK]).status, "a body of 1 MiB")
-    # The head says how long it is: nothing of it has to come.
+    # The head has the length of the body, so no byte of the body has to be sent.
     head = f"POST /write?handler=x.y HTTP/1.1\r\nhost: 127.0.0.1:{client.router.page}\r\n{MARK}\r\nconnection: close\r\ncontent-length: 1048577\r\n\r\n"
     same(413, client.send(head.encode()).status, "a body of a byte more")
 
 
 def ends_slow_heads(client):
-    """A head that comes a byte at a time, so that no pause is long."""
+    """Checks a head that is sent byte by byte, without a long pause."""
     head, ends = f"GET / HTTP/1.1\r\nhost: 127.0.0.1:{client.router.page}\r\nx-slow: ".encode(), time.monotonic() + PATIENCE
     with client.connect() as peer:
         peer.settimeout(0.5)
@@ -397,7 +415,7 @@ def limits_connections(client):
 
 
 def answers_sessions(client):
-    """A session is answered while the page has all the connections that it takes, and is sent half a head by each."""
+    """Checks that a session is answered while the page has 32 connections with partial heads."""
     with contextlib.ExitStack() as all_of_them:
         for _ in range(32):
             all_of_them.enter_context(client.connect()).sendall(b"GET / HTTP/1.1\r\n")
@@ -434,7 +452,7 @@ def try_sockets(tally, router, session):
         tally.check(what, act, client)
 
 
-# ---- By the browser: what an operator sees and does
+# ---- In the browser: what an operator sees and does
 
 
 def opens(browser, router):
@@ -454,7 +472,7 @@ def shows_drawing(browser, session):
 
 
 def number_of(browser, name):
-    """The count that the page shows of a counter."""
+    """Returns the count that the page shows for a counter."""
     row = f"[...document.querySelectorAll('#panel tbody tr')].find((it) => it.cells[0].textContent === {name!r})?.cells[2].textContent ?? ''"
     return int(browser.value(row).replace(",", "").replace("-", "") or 0)
 
@@ -507,7 +525,7 @@ def writes(browser, session):
 
 
 def shows_faults(browser, session):
-    """Columns are bytes; the caret is set by characters."""
+    """Checks the position of a fault: its column counts bytes, and the caret counts characters."""
     text = "// \u00e4\u20ac\n/* \u00e4\u20ac \U0001f600 */ Idle -> nowhere;\n"
     column = len(text.split("\n")[1].split("nowhere")[0].encode()) + 1
     browser.type("#editor", text)
@@ -571,7 +589,7 @@ def is_quiet_when_hidden(browser):
 
 
 def looks_by_media(browser):
-    """Dark where the reader's screen is, and on paper without controls."""
+    """Checks that the page is dark on a dark screen, and without controls on paper."""
     colour = "getComputedStyle(document.querySelector('#panel')).backgroundColor"
     light = browser.value(colour)
     browser.ask("Emulation.setEmulatedMedia", features=[{"name": "prefers-color-scheme", "value": "dark"}])
@@ -642,7 +660,7 @@ def take_shots(browser, command, folder):
 
 # ---- All of it
 
-# Which check has to see what the mock can be wrong in.
+# For each point in which the mock can be wrong, the check that has to fail.
 SEEN_BY = {
     "no-host-check": "a foreign Host is refused",
     "no-target-check": "a target elsewhere is refused",
@@ -686,7 +704,7 @@ SEEN_BY = {
 
 
 def try_wrongs(names):
-    """Where the mock is wrong, the check of that point fails."""
+    """Checks that the check of a point fails if the mock is wrong in it."""
     tally = Tally()
     same(sorted(page_mock.WRONGS), sorted(SEEN_BY), "what the mock can be wrong in")
     for wrong in names or SEEN_BY:
@@ -696,7 +714,7 @@ def try_wrongs(names):
             part = "sockets" if what in SOCKETS else "browser"
             did = subprocess.run([sys.executable, __file__, "--mock", "--wrong", wrong, "--part", part], capture_output=True, text=True)
             if did.returncode != 1 or f"FAILED  {what}" not in did.stdout:
-                raise Wrong(f"it ended with {did.returncode}, and said {did.stdout[-1500:]}{did.stderr[-500:]}")
+                raise Wrong(f"it ended with status {did.returncode} and printed {did.stdout[-1500:]}{did.stderr[-500:]}")
 
         tally.check(f"a mock with {wrong} is found out by: {what}", is_seen)
     return tally
@@ -712,7 +730,7 @@ def try_all(command, given):
         if given.part == "sockets":
             return tally
         if not program:
-            print("left out: the browser's part, since there is no chromium (apt-get install chromium)")
+            print("left out: the part browser, because chromium is not installed (apt-get install chromium)")
             return tally
         browser = Browser(program)
         try:
@@ -733,7 +751,7 @@ def main():
     words.add_argument("--shots")
     words.add_argument("command", nargs=argparse.REMAINDER)
     given = words.parse_args()
-    command = given.command or [f"{TOP}/crates/click_prog/out/click_prog"]
+    command = given.command or [path_of("click_prog")]
     if given.mock:
         command = [sys.executable, f"{TOP}/tools/page_mock.py", *(["--wrong", given.wrong] if given.wrong else [])]
     try:

@@ -1,12 +1,14 @@
 #!/usr/bin/env python3
-"""A page's router without the router: it answers as crates/click_page/specs say, over a few configurations whose pictures are at hand, with numbers that move.
-For trying crates/click_page/page/page.html, and tools/page.py, where nothing is built.
+"""Serves the page without a router, to try crates/click_page/page/page.html and tools/page.py when
+no program is built. It answers as crates/click_page/specs defines, over a few configurations whose
+pictures are stored, with numbers that change over time.
 
     page_mock.py -e TEXT --page PORT [-p PORT] [--readonly] [--wrong WHAT]
 
-It knows the texts of tools/page_mock, of examples/counter.click and compounds.click, and of examples/calls/ip_router.click; all others are faulty: at the word
-`nowhere`, else at their end. With --wrong it is wrong in one point (WRONGS below), so that it is seen that tools/page.py looks there. Other options of
-click_prog are taken and mean nothing.
+It knows the configurations of tools/page_mock, examples/counter.click, examples/compounds.click and
+examples/calls/ip_router.click. All others have a fault, at the word `nowhere` or else at their end.
+With --wrong it is wrong in one point (WRONGS below), to show that tools/page.py checks this point.
+Other options of click_prog are accepted and ignored.
 """
 import argparse
 import base64
@@ -43,13 +45,13 @@ HANDLERS = {
 OWN = ["version", "list", "config", "flatconfig", "classes", "overruns"]
 REASONS = {200: "OK", 400: "Bad Request", 403: "Forbidden", 404: "Not Found", 405: "Method Not Allowed", 413: "Content Too Large", 431: "Request Header Fields Too Large", 503: "Service Unavailable"}
 MOST_HEAD, MOST_BODY, MOST_CONNECTIONS = 65536, 1048576, 32
-# Less than the router takes, so that a test need not wait as long.
+# Shorter than those of the router, so that tests are faster.
 SECONDS_FOR_A_HEAD, SECONDS_BETWEEN = 3, 30
-# What it can be wrong in, each of which tools/page.py has to see.
+# The points in which the mock can be wrong. tools/page.py has to find each of them.
 WRONGS = """no-host-check no-target-check no-mark-check cors no-policy other-policy other-page no-method-check slow-heads takes-garbage long-heads long-bodies
 many-connections stuck-sessions other-element less-connections other-flat still-counter lost-write other-place no-place fault-installs no-redraw unseen-swap
 no-denial any-query""".split()
-# Edits of the page: what stands there once, and what is put in its place.
+# Edits of the page: a text that occurs once, and its replacement.
 PAGE_EDITS = {
     "page-with-markup": ("it.textContent = text;\n  for", "it.innerHTML = text;\n  for"),
     "page-without-keys": ('$("drawing").addEventListener("keydown", press);', ""),
@@ -68,7 +70,7 @@ WRONGS += PAGE_EDITS
 
 
 class Fault(Exception):
-    """Why there is no value: the number and the lines that a session is told."""
+    """The refusal of a call: its number, and the lines that a session gets."""
 
     def __init__(self, number, *lines):
         super().__init__(number)
@@ -77,7 +79,10 @@ class Fault(Exception):
 
 
 def text_in(text, name, kind):
-    """An element's text; where it is a parameter, the argument of its compound's element."""
+    """Returns the configuration string of an element.
+
+    For a parameter it is the argument of the compound around the element.
+    """
     *way, own = map(re.escape, name.split("/"))
     found = re.search(rf"\b{own} :: \w+\(([^;]*?)\)(?= ->|;)", text) or re.search(rf"\b{kind}\(([^;]*?)\)(?= ->|;)", text)
     written = found[1] if found else ""
@@ -85,7 +90,11 @@ def text_in(text, name, kind):
 
 
 def flat_of(picture, text):
-    """The flat form of a picture: the marks of ports say what they are, and the ends of lines which ones they join."""
+    """Returns the flat form of a picture.
+
+    The marks of the ports show their kinds, and the ends of the lines show which ports are
+    connected.
+    """
     elements, places = [], {}
     for at, x, y, rest in re.findall(r'<g id="e(\d+)" transform="translate\((\d+),(\d+)\)">(.*)</g>', picture):
         name, kind = re.findall(r"<text[^>]*>([^<]*)</text>", rest)
@@ -111,7 +120,7 @@ def file_text(path):
 
 
 class Router:
-    """What a page and a session have in common: calls of handlers."""
+    """The router of the mock: handlers, which the page and the sessions call."""
 
     def __init__(self, text, readonly, wrong):
         self.readonly, self.wrong, self.began = readonly, wrong, time.monotonic()
@@ -119,7 +128,10 @@ class Router:
         self.install(text)
 
     def install(self, text):
-        """The words of a shell lose the line ends at a text's end, so these do not count."""
+        """Makes a configuration the running one, or raises its fault.
+
+        Line ends at the end of the text are ignored, because a shell removes them from arguments.
+        """
         for file, picture in PICTURES.items():
             if file_text(file).rstrip() == text.rstrip():
                 self.text, self.picture = text, file_text(picture)
@@ -134,6 +146,7 @@ class Router:
         raise Fault(520, "Write handler 'hotconfig' error:", name + place)
 
     def element(self, handler):
+        """Returns the index of a handler's element, the element, and the handler's name in it."""
         name, _, own = handler.rpartition(".")
         found = [it for it in self.flat["elements"] if it["name"] == name]
         if not found:
@@ -141,7 +154,10 @@ class Router:
         return self.flat["elements"].index(found[0]), found[0], own
 
     def moving(self, at, own, element):
-        """A number of now: counts that grow by turns fast and slowly, and lengths that rise and fall."""
+        """Returns the present value of a number.
+
+        Counts grow at a varying rate, and lengths rise and fall.
+        """
         seconds = time.monotonic() - self.began
         if own == "length":
             return int(self.capacity(element) * (0.5 + 0.5 * math.sin(seconds / 4 + at)))
@@ -191,7 +207,7 @@ class Router:
             self.written[handler] = text.strip()
 
     def call(self, act, *words):
-        """A value, None where something is done, or a Fault."""
+        """Makes a call. Returns a value, None if something was done, or a Fault."""
         with self.lock:
             try:
                 return act(*words)
@@ -200,23 +216,25 @@ class Router:
 
 
 def as_json(data):
-    """Each byte of a text as the character of its number, which JSON then has in UTF-8."""
+    """Returns the data as JSON in UTF-8."""
     said = json.dumps(data, separators=(",", ":"), ensure_ascii=False, default=str)
     return said.encode()
 
 
 def as_bytes(text):
+    """Returns a text with a character for each byte of its UTF-8 form, as in the page's JSON."""
     return text.encode().decode("latin-1")
 
 
 def entry(answer):
+    """Returns the JSON object for the answer of a call."""
     if isinstance(answer, Fault):
         return {"fault": answer.number, "text": as_bytes(answer.text)}
     return {"done": True} if answer is None else {"value": as_bytes(answer)}
 
 
 class Page:
-    """The page over a router, for one connection after another."""
+    """The HTTP service of the page, over a router."""
 
     def __init__(self, router, port, wrong):
         self.router, self.port, self.wrong = router, port, wrong
@@ -229,6 +247,7 @@ class Page:
             self.policy += "; font-src *"
 
     def respond(self, status, kind, body, closes=False):
+        """Returns a response with the headers that protect the page."""
         guards = {"cache-control": "no-store", "content-security-policy": self.policy, "x-content-type-options": "nosniff", "x-frame-options": "DENY"}
         guards |= {"cross-origin-resource-policy": "same-origin", "referrer-policy": "no-referrer"}
         if self.wrong == "no-policy":
@@ -242,7 +261,7 @@ class Page:
         return self.respond(status, "text/plain; charset=utf-8", line.encode() + b"\n")
 
     def answer(self, method, target, fields, body):
-        """What a request with this head and body is answered: crates/click_page/specs/Asking.antt and Saying.antt."""
+        """Returns the response to a request, as the specs of click_page define it."""
         names = [f"{name}{port}" for name in ("127.0.0.1", "localhost", "[::1]") for port in ([f":{self.port}", ""] if self.port == 80 else [f":{self.port}"])]
         hosts = [value for name, value in fields if name == "host"]
         place = urllib.parse.urlsplit(target)
@@ -263,6 +282,7 @@ class Page:
         return self.say(place.path, handlers, body.decode(errors="replace"))
 
     def say(self, path, handlers, text):
+        """Returns the response of a path to a request that was not refused."""
         call, router = self.router.call, self.router
         if path == "/":
             return self.respond(200, "text/html; charset=utf-8", self.page)
@@ -281,11 +301,11 @@ class Page:
     def read(self, handlers, said):
         if self.wrong == "unseen-swap":
             self.first = getattr(self, "first", as_bytes(self.router.text))
-            return [{"value": self.first} if it == "config" else one for it, one in zip(handlers, said)]
+            return [{"value": self.first} if it == "config" else answer for it, answer in zip(handlers, said)]
         return said
 
     def picture(self):
-        """The picture of now, or one that is wrong in a point."""
+        """Returns the picture of the running configuration, or a wrong one."""
         picture = self.router.picture
         if self.wrong == "no-redraw":
             self.old = picture = getattr(self, "old", picture)
@@ -294,7 +314,7 @@ class Page:
         return picture.replace(">rt<", ">rx<") if self.wrong == "other-element" else picture
 
     def take(self, peer):
-        """A place for a connection, where there is one."""
+        """Takes a slot for a connection, or refuses it with status 503 and returns False."""
         with self.lock:
             if self.places == 0 and self.wrong != "many-connections":
                 peer.sendall(self.respond(503, "text/plain; charset=utf-8", b"", True))
@@ -333,7 +353,7 @@ class Page:
                 return
 
     def refusal_of(self, head, asked):
-        """The status for what is too long or no request; None for what is answered."""
+        """Returns the status that refuses a request, because of its length or form, or None."""
         if len(head) > MOST_HEAD:
             return 431
         if asked is None:
@@ -341,7 +361,11 @@ class Page:
         return 413 if asked[3] > MOST_BODY and self.wrong != "long-bodies" else None
 
     def part(self, peer, status):
-        """Ends a connection. What the peer still sends is read, since it would reset the connection before the peer has read the answer."""
+        """Ends a connection with this status.
+
+        What the peer still sends is read. Otherwise closing would reset the connection before the
+        peer has read the response.
+        """
         peer.sendall(self.respond(status, "text/plain; charset=utf-8", b"", True))
         peer.shutdown(socket.SHUT_WR)
         while peer.recv(65536):
@@ -354,7 +378,10 @@ class Page:
         return piece
 
     def head(self, peer, rest):
-        """A head up to its blank line, with a limit to its length, and to its time from the first bytes on; None where the peer leaves before it is whole."""
+        """Reads a head up to its blank line, with limits to its length and its time.
+
+        Returns it with the bytes after it, or None if the peer closes before it is complete.
+        """
         ends = None
         while b"\r\n\r\n" not in rest and (len(rest) <= MOST_HEAD or self.wrong == "long-heads") and rest.count(b"\n") == rest.count(b"\r\n"):
             peer.settimeout(SECONDS_BETWEEN if ends is None or self.wrong == "slow-heads" else max(0.01, ends - time.monotonic()))
@@ -367,7 +394,7 @@ class Page:
         return (head[:MOST_HEAD] if self.wrong == "long-heads" else head), rest
 
     def request(self, head):
-        """The method, the target, the fields and the body's length, or None for what is no request."""
+        """Returns the method, target, fields and body length of a head, or None if faulty."""
         try:
             first, *lines = head.decode("latin-1").split("\r\n")
             method, target, version = re.fullmatch(r"([!-~]+) ([!-~]+) HTTP/1\.([01])", first).groups()
@@ -381,7 +408,7 @@ class Page:
 
 
 class Sessions:
-    """Control sessions, as far as tools/page.py speaks them."""
+    """Control sessions with the commands that tools/page.py uses."""
 
     def __init__(self, router, page):
         self.router, self.page = router, page
@@ -410,7 +437,7 @@ class Sessions:
 
 
 def listen(port, serve):
-    """Serves each connection at a port of 127.0.0.1 in a thread of its own."""
+    """Serves each connection at a port of 127.0.0.1 in its own thread."""
     listener = socket.create_server(("127.0.0.1", port), backlog=128)
 
     def accept():
@@ -431,7 +458,7 @@ def main():
     given, _ = words.parse_known_args()
     for name, (old, _) in PAGE_EDITS.items():
         if file_text(PAGE).count(old) != 1:
-            sys.exit(f"page_mock.py: {name}: this does not stand in the page once: {old}")
+            sys.exit(f"page_mock.py: {name}: this does not occur exactly once in the page: {old}")
     router = Router(given.text, given.readonly, given.wrong)
     page = Page(router, given.page, given.wrong)
     listen(given.page, page.serve)

@@ -1,9 +1,11 @@
 """Changes a capture, for tools/wrong_programs.sh.
 
-    pcap_edit.py FILE bump AT                  the byte there is one more
-    pcap_edit.py FILE drop|double|exchange     the first record is lost, or comes twice, or the first two packets are exchanged
+    pcap_edit.py FILE bump AT     adds one to the byte at this offset
+    pcap_edit.py FILE drop        removes the first record
+    pcap_edit.py FILE double      doubles the first record
+    pcap_edit.py FILE exchange    exchanges the first two packets, and leaves the times in place
 
-Records are those of a capture of microseconds in the byte order with the lowest byte first; other files stay as they are.
+Records are changed only in a little-endian capture with microseconds; other files stay unchanged.
 """
 
 import struct

@@ -1,9 +1,11 @@
-"""Makes captures, sends them through click_pcap, and checks what comes by arithmetic of its own.
+"""Makes captures, sends them through click_prog --pcap, and checks the output by its own model.
 
     pcap_example.py PROGRAM GATEWAY THREE [quick]
 
-GATEWAY is the configuration of the gateway, and THREE a capture that the page has. The first thing that is wrong ends it with status 1.
-A capture is what pcap-savefile(5) says. With `quick` the captures of a million packets are left out.
+GATEWAY is the file with the configuration of the gateway, and THREE the capture of the page.
+Captures follow pcap-savefile(5). `quick` leaves out the captures of a million packets, and the
+check that a packet is written before the next one is sent. The first failure ends the script with
+status 1.
 """
 
 import os
@@ -29,11 +31,12 @@ def fail(what, wanted, came):
 
 
 def same(what, wanted, came):
+    """Checks that two values are equal."""
     if wanted != came:
         fail(what, wanted, came)
 
 
-# ---- captures
+# ---- Captures
 
 
 def header(order="<", magic=MICRO, major=2, minor=4, zone=0, accuracy=0, snap=65535, link=ETHERNET):
@@ -44,11 +47,11 @@ def record(packet, time=(0, 0), order="<", wire=None):
     return struct.pack(order + "IIII", *time, len(packet), len(packet) if wire is None else wire) + packet
 
 
-# ---- packets
+# ---- Packets
 
 
 def summed(header_bytes):
-    """The ones' complement sum of RFC 791, one pair of bytes at a time."""
+    """Returns the ones' complement sum of RFC 791."""
     total = 0
     for at in range(0, len(header_bytes), 2):
         total += header_bytes[at] * 256 + header_bytes[at + 1]
@@ -69,7 +72,7 @@ def frame(packet, kind=0x0800):
 
 
 def counted_down(packet):
-    """The packet with a time to live that is one less and its checksum, or none."""
+    """Returns a packet with a decremented time to live and its checksum, or None if dropped."""
     if packet[8] < 2:
         return None
     words = packet[0] % 16
@@ -81,7 +84,7 @@ def counted_down(packet):
 
 
 def through_gateway(sent):
-    """What examples/pcap/gateway.click makes of a frame; none where it is dropped."""
+    """Returns what examples/pcap/gateway.click makes of a frame, or None if it is dropped."""
     packet = sent[14:]
     if len(packet) < 20 or packet[0] // 16 != 4:
         return None
@@ -114,11 +117,11 @@ BAD = [
 MIXED = [GOOD[0], BAD[0], GOOD[1], BAD[1], BAD[2], GOOD[2], BAD[3], BAD[4], GOOD[3], BAD[5], BAD[6], GOOD[0]]
 
 
-# ---- runs
+# ---- Runs
 
 
 def run(text, given, source="eth0", sink="eth1", **how):
-    words = [PROGRAM, "-e", text, "--in", source, "--out", sink]
+    words = [PROGRAM, "--pcap", "-e", text, "--in", source, "--out", sink]
     if isinstance(given, bytes):
         how["input"] = given
     else:
@@ -127,12 +130,12 @@ def run(text, given, source="eth0", sink="eth1", **how):
     return subprocess.run(words, stderr=subprocess.PIPE, timeout=600, **how)
 
 
-def numbers(read=0, left_out=0, entered=0, written=0):
+def counts_line(read=0, left_out=0, entered=0, written=0):
     return f"read {read}, left out {left_out}, entered {entered}, written {written}\n".encode()
 
 
 def has(what, done, status, out, error):
-    """A run that is done had this status, this standard output and this standard error."""
+    """Checks the status, the standard output and the standard error of a run."""
     global checked
     same(f"{what}: standard error", error, done.stderr)
     same(f"{what}: standard output", out, done.stdout)
@@ -141,7 +144,11 @@ def has(what, done, status, out, error):
 
 
 def modelled(front, packets, order, model, front_out=None):
-    """A capture of packets, each with its time, the one that the model makes of it, and the line of the numbers."""
+    """Returns a capture of these packets, the capture that the model makes of it, and the counts
+    line.
+
+    `model` takes a packet and returns the list of packets that leave for it.
+    """
     given, wanted, counts = front, front_out or front, [0, 0, 0, 0]
     for at, packet in enumerate(packets):
         moment = (1_700_000_000 + 97 * at, (123_456 * at) % 1_000_000)
@@ -154,29 +161,30 @@ def modelled(front, packets, order, model, front_out=None):
         for made in model(packet):
             counts[3] += 1
             wanted += record(made, moment, order)
-    return given, wanted, numbers(*counts)
+    return given, wanted, counts_line(*counts)
 
 
 def carried(what, text, front, packets, order, model, front_out=None):
-    """Packets, each with its time, and what the model makes of them."""
+    """Checks a run over a capture of these packets against the model."""
     given, wanted, line = modelled(front, packets, order, model, front_out)
     has(what, run(text, given), 0, wanted, line)
 
 
-def one(model):
+def as_list(model):
+    """Turns a model that returns a packet or None into one that returns a list."""
     return lambda packet: [made for made in [model(packet)] if made is not None]
 
 
 def kinds():
-    """Each magic number in each byte order, each link type, and the fields of a header."""
+    """Checks each magic number in each byte order, each link type, and the fields of a header."""
     for order in "<>":
         for magic in (MICRO, NANO):
             front = header(order, magic, zone=3600, accuracy=9)
-            carried(f"the gateway, {order} {magic:x}", GATEWAY, front, MIXED, order, one(through_gateway))
+            carried(f"the gateway, {order} {magic:x}", GATEWAY, front, MIXED, order, as_list(through_gateway))
             for link in (RAW, IPV4):
                 front = header(order, magic, link=link)
                 packets = [packet[14:] for packet in GOOD + BAD[:2]]
-                carried(f"link type {link}, {order} {magic:x}", ROUTED, front, packets, order, one(counted_down))
+                carried(f"link type {link}, {order} {magic:x}", ROUTED, front, packets, order, as_list(counted_down))
     for snap, wanted in ((0, 0), (1, 1600), (1599, 1600), (1600, 1600), (1601, 1601), (262144, 262144), (0xFFFFFFFF, 0xFFFFFFFF)):
         for order in "<>":
             packets = [b"\xff"] if snap == 1 else [b"\x01" * 1599]
@@ -185,16 +193,16 @@ def kinds():
 
 
 def sizes():
-    """Packets of all sizes; those of more than 1,600 bytes are left out."""
+    """Checks packets of all sizes; those of more than 1,600 bytes are left out."""
     packets = [bytes(length % 251 for _ in range(length)) for length in (0, 1, 60, 1599, 1600, 1601, 1600, 9000, 65535, 2, 262144)]
     carried("sizes", PLAIN, header(snap=0), packets, "<", lambda packet: [packet])
-    # Of a packet that was cut by its capture just what was kept enters, and it is written as a packet of that length.
+    # Of a truncated packet the captured bytes enter, and it is written as a packet of that length.
     given = header(snap=96) + record(b"\x05" * 96, (5, 6), wire=1514)
-    has("a packet that was cut", run(PLAIN, given), 0, header(snap=1600) + record(b"\x05" * 96, (5, 6)), numbers(1, 0, 1, 1))
+    has("a packet that was cut", run(PLAIN, given), 0, header(snap=1600) + record(b"\x05" * 96, (5, 6)), counts_line(1, 0, 1, 1))
 
 
 def elements():
-    """Several packets for one, and packets that no packet brought."""
+    """Checks configurations that return several packets for one, none, or packets of a source."""
     packets = [b"one", b"two", b"three"]
     tee = "FromDevice(eth0) -> t :: Tee(3); q :: Queue; t -> q; t [1] -> q; t [2] -> q; q -> ToDevice(eth1);"
     carried("three for one", tee, header(), packets, "<", lambda packet: [packet] * 3)
@@ -207,18 +215,19 @@ def elements():
     carried("packets of a source", source, header(), packets, "<", lambda packet: [packet] + list(filter(None, [next(made, None)])))
     one_device = "FromDevice(eth0) -> Queue -> ToDevice(eth0);"
     done = run(one_device, header() + record(b"x"), sink="eth0")
-    has("one device for both", done, 0, header() + record(b"x"), numbers(1, 0, 1, 1))
+    has("one device for both", done, 0, header() + record(b"x"), counts_line(1, 0, 1, 1))
 
 
-# ---- faults
+# ---- Faults
 
 
 def broken(what, given, read, out, error):
-    has(what, run(PLAIN, given), 1, out, b"error: " + error.encode() + b"\n" + numbers(read, 0, read, read))
+    """Checks that a faulty capture ends the run with status 1 and this error."""
+    has(what, run(PLAIN, given), 1, out, b"error: " + error.encode() + b"\n" + counts_line(read, 0, read, read))
 
 
 def headers():
-    """Headers that are cut, or of no capture that is read."""
+    """Checks headers that are truncated, or of unsupported formats."""
     whole = header()
     for length in range(24):
         broken(f"a header of {length} bytes", whole[:length], 0, b"", f"byte {length}: the capture ends inside its header of 24 bytes")
@@ -239,18 +248,18 @@ def headers():
 
 
 def records():
-    """Records that are cut or too long; what came before them is written."""
+    """Checks records that are truncated or too long; the records before them are written."""
     front = header() + record(b"first", (1, 2))
     second = record(b"the second", (3, 4))
     for length in range(1, len(second)):
         wanted = "packet 2, byte 45: the capture ends inside this record"
         broken(f"a record of {length} bytes", front + second[:length], 1, front, wanted)
-    # Where a record begins is told behind one that is left out, too.
+    # The position of a record is also right after a record that is left out.
     long = header() + record(b"\x07" * 1601) + record(b"first", (1, 2))
     for length in (1, 16, 25):
         done = run(PLAIN, long + second[:length])
         wanted = b"error: packet 3, byte 1662: the capture ends inside this record\n"
-        has(f"a record of {length} bytes behind one that is left out", done, 1, front, wanted + numbers(2, 1, 1, 1))
+        has(f"a record of {length} bytes behind one that is left out", done, 1, front, wanted + counts_line(2, 1, 1, 1))
     for snap, most in ((65535, 65535), (1600, 1600), (0, 262144), (262145, 262144)):
         for claimed in (most + 1, 0x7FFFFFFF, 0xFFFFFFFF):
             start = header(snap=snap) + record(b"first")
@@ -260,8 +269,8 @@ def records():
 
 
 def endless():
-    """A record that claims to have 4 GiB is refused at once, while its bytes still come; 64 MiB of them would."""
-    words = [PROGRAM, "-e", PLAIN, "--in", "eth0", "--out", "eth1"]
+    """Checks that a record that claims 4 GiB is refused at once, while its bytes are still sent."""
+    words = [PROGRAM, "--pcap", "-e", PLAIN, "--in", "eth0", "--out", "eth1"]
     start = header() + record(b"first")
     with subprocess.Popen(words, stdin=subprocess.PIPE, stdout=subprocess.PIPE, stderr=subprocess.PIPE) as child:
         def feed():
@@ -282,12 +291,12 @@ def endless():
             child.stdin.close()
         except OSError:
             pass
-    wanted = b"error: packet 2, byte 45: 4294967295 bytes, where the capture has 65535 a packet at most\n" + numbers(1, 0, 1, 1)
+    wanted = b"error: packet 2, byte 45: 4294967295 bytes, where the capture has 65535 a packet at most\n" + counts_line(1, 0, 1, 1)
     has("an endless record", subprocess.CompletedProcess(words, child.returncode, out, error), 1, start, wanted)
 
 
 def devices():
-    """Sources and sinks that are not there: nothing is read then."""
+    """Checks missing sources and sinks: nothing is read."""
     for what, source, sink, wanted in (
         ("no source", "eth7", "eth1", "error: the configuration has no source of the device --in\n"),
         ("no sink", "eth0", "eth7", "error: the configuration has no sink of the device --out\n"),
@@ -307,40 +316,40 @@ def devices():
 
 
 def arguments():
-    """Wrong arguments and help: clap's text on standard error."""
+    """Checks wrong arguments and help: status 2, with a text on standard error."""
     every = ["-e", PLAIN, "--in", "eth0", "--out", "eth1"]
     for words in ([], every[:2], every[:4], every[2:], every + ["more"], every + ["-x"], ["--help"], ["-h"], every[:-1]):
-        done = subprocess.run([PROGRAM] + words, input=b"", stdout=subprocess.PIPE, stderr=subprocess.PIPE, timeout=60)
+        done = subprocess.run([PROGRAM, "--pcap"] + words, input=b"", stdout=subprocess.PIPE, stderr=subprocess.PIPE, timeout=60)
         same(f"{words}: the status", 2, done.returncode)
         same(f"{words}: standard output", b"", done.stdout)
         if not done.stderr:
             fail(f"{words}: standard error", "some text", done.stderr)
-    done = subprocess.run([PROGRAM, b"\xff"], input=b"", stdout=subprocess.PIPE, stderr=subprocess.PIPE, timeout=60)
-    has("an argument that is no text", done, 2, b"", b"click_pcap: an argument is not UTF-8\n")
+    done = subprocess.run([PROGRAM, "--pcap", b"\xff"], input=b"", stdout=subprocess.PIPE, stderr=subprocess.PIPE, timeout=60)
+    has("an argument that is no text", done, 2, b"", b"click_prog: an argument is not UTF-8\n")
 
 
 def failures():
-    """Reads and writes that fail."""
+    """Checks failing reads and writes."""
     given = header() + record(b"first") + record(b"second")
     with open("/dev/full", "wb") as full:
         done = run(PLAIN, given, stdout=full)
     done.stdout = b""
-    # Both packets were taken for writing before the first write.
-    has("a full device", done, 4, b"", b"error: a write failed\n" + numbers(2, 0, 2, 2))
+    # Both packets were in the buffer before the first write.
+    has("a full device", done, 4, b"", b"error: a write failed\n" + counts_line(2, 0, 2, 2))
     done = run(PLAIN, None, preexec_fn=lambda: os.close(0))
-    has("closed standard input", done, 4, b"", b"error: a read failed\n" + numbers())
+    has("closed standard input", done, 4, b"", b"error: a read failed\n" + counts_line())
     with tempfile.TemporaryDirectory() as folder:
         place = os.open(folder, os.O_RDONLY)
         done = run(PLAIN, place)
         os.close(place)
-    has("a folder as standard input", done, 4, b"", b"error: a read failed\n" + numbers())
+    has("a folder as standard input", done, 4, b"", b"error: a read failed\n" + counts_line())
 
 
-# ---- when it is written
+# ---- When the output is written
 
 
 def comes(child, count):
-    """So many bytes of a child's output, or those that came in a minute."""
+    """Returns `count` bytes of a child's output, or fewer if it ends or a minute is over."""
     came, until = b"", monotonic() + 60
     while len(came) < count and select.select([child.stdout], [], [], max(0, until - monotonic()))[0]:
         piece = os.read(child.stdout.fileno(), count - len(came))
@@ -351,19 +360,22 @@ def comes(child, count):
 
 
 def started(text):
-    words = [PROGRAM, "-e", text, "--in", "eth0", "--out", "eth1"]
+    words = [PROGRAM, "--pcap", "-e", text, "--in", "eth0", "--out", "eth1"]
     return subprocess.Popen(words, bufsize=0, stdin=subprocess.PIPE, stdout=subprocess.PIPE, stderr=subprocess.PIPE)
 
 
 def ended(what, child, out, error):
-    """The child's input ends, and it ends well, with no more than this on its output."""
+    """Closes the child's input, and checks that it ends with status 0 and this further output."""
     child.stdin.close()
     rest, told = child.stdout.read(), child.stderr.read()
     has(what, subprocess.CompletedProcess(child.args, child.wait(timeout=60), rest, told), 0, out, error)
 
 
 def waits():
-    """What comes of a packet is there before the program waits for the next, also where the next is there in part."""
+    """Checks that the output for a packet is written before the program waits for the next one.
+
+    It is also written if a part of the next record is already there.
+    """
     first, second, third = (record(packet, (at, 0)) for at, packet in enumerate([b"first", b"\x05" * 1600, b"third"]))
     steps = [(header(), header()), (first, first), (second + third[:7], second), (third[7:18], b""), (third[18:] + first + first[:16], third + first)]
     with started(PLAIN) as child:
@@ -371,55 +383,59 @@ def waits():
             child.stdin.write(given)
             same(f"what has come by step {at}", wanted, comes(child, len(wanted)))
         child.stdin.write(first[16:])
-        ended("step by step", child, first, numbers(5, 0, 5, 5))
+        ended("step by step", child, first, counts_line(5, 0, 5, 5))
 
 
 def in_pieces():
-    """A capture that comes byte by byte, in small pieces, and whole leads to the same."""
-    given, wanted, line = modelled(header(), MIXED, "<", one(through_gateway))
+    """Checks that a capture gives the same output byte by byte, in small pieces, and at once."""
+    given, wanted, line = modelled(header(), MIXED, "<", as_list(through_gateway))
     for size in (1, 7, 100, len(given)):
         with started(GATEWAY) as child:
             for at in range(0, len(given), size):
                 child.stdin.write(given[at : at + size])
             ended(f"a capture in pieces of {size}", child, wanted, line)
-    # More than is held at once, in records that do not end where it is full.
+    # More bytes than the buffer holds, in records that do not end where the buffer is full.
     packets = [bytes(length % 251 for _ in range(length)) for length in range(1, 1600, 3)] * 2
     carried("many sizes", PLAIN, header(), packets, "<", lambda packet: [packet])
 
 
 def told_last():
-    """What is held is written before an error is told."""
+    """Checks that the buffer is written before an error is printed."""
     given = header() + record(b"first") + record(b"second")[:20]
-    words = [PROGRAM, "-e", PLAIN, "--in", "eth0", "--out", "eth1"]
+    words = [PROGRAM, "--pcap", "-e", PLAIN, "--in", "eth0", "--out", "eth1"]
     done = subprocess.run(words, input=given, stdout=subprocess.PIPE, stderr=subprocess.STDOUT, timeout=60)
     done.stderr = b""
-    error = b"error: packet 2, byte 45: the capture ends inside this record\n" + numbers(1, 0, 1, 1)
+    error = b"error: packet 2, byte 45: the capture ends inside this record\n" + counts_line(1, 0, 1, 1)
     has("an error behind what was held", done, 1, header() + record(b"first") + error, b"")
 
 
 def million():
-    """A million packets in 64 MiB, all that the program has mapped; and one packet of which a million come, and more would."""
+    """Checks a million packets with an address space of 64 MiB.
+
+    Also checks a packet for which the sink would return packets forever: the run ends after
+    1,048,576.
+    """
     count = 1_000_000
     given = header() + record(b"x", (7, 8)) * count
     room = 64 << 20
     done = run(PLAIN, given, preexec_fn=lambda: resource.setrlimit(resource.RLIMIT_AS, (room, room)))
-    has("a million packets", done, 0, given, numbers(count, 0, count, count))
+    has("a million packets", done, 0, given, counts_line(count, 0, count, count))
     again = "FromDevice(eth0) -> q :: Queue -> t :: PullTee(2) -> ToDevice(eth1); t [1] -> q;"
     given = header() + record(b"\x07" * 1601) + record(b"x", (7, 8)) + record(b"y")
     asked = 1_048_576
     wanted = b"error: packet 2, byte 1641: the sink was asked 1048576 times after it, and gave a packet each time\n"
-    has("a packet that comes again and again", run(again, given), 1, header() + record(b"x", (7, 8)) * asked, wanted + numbers(2, 1, 1, asked))
+    has("a packet that comes again and again", run(again, given), 1, header() + record(b"x", (7, 8)) * asked, wanted + counts_line(2, 1, 1, asked))
 
 
 def three():
-    """The page's capture: one packet that goes on, one whose time is up, and one more that goes on."""
+    """Checks the page's capture: of its three packets the gateway drops the second, as expired."""
     with open(THREE, "rb") as file:
         given = file.read()
     times = [(1_700_000_000, 1), (1_700_000_000, 250_000), (1_700_000_001, 0)]
     packets = [GOOD[0], BAD[0], GOOD[1]]
     same("the page's capture", header() + b"".join(record(p, t) for p, t in zip(packets, times)), given)
     wanted = header() + record(through_gateway(GOOD[0]), times[0]) + record(through_gateway(GOOD[1]), times[2])
-    has("the page's capture", run(GATEWAY, given), 0, wanted, numbers(3, 0, 3, 2))
+    has("the page's capture", run(GATEWAY, given), 0, wanted, counts_line(3, 0, 3, 2))
 
 
 if __name__ == "__main__":
@@ -431,4 +447,4 @@ if __name__ == "__main__":
     if sys.argv[4:] != ["quick"]:
         waits()
         million()
-    print(f"{checked} captures came through as they should")
+    print(f"{checked} captures checked")

@@ -1,7 +1,10 @@
 #!/usr/bin/env bash
-# Captures through the program crates/click_pcap/out/click_pcap, which must have been built: those that tools/pcap_example.py makes and checks, and the
-# example of docs/PCAP.md. QUICK=1 leaves out those of a million packets, and whether a packet comes
-# before the next is sent, which a program cannot show whose output is changed once it has ended.
+# Checks click_prog --pcap with the example of docs/PCAP.md and with the captures that
+# tools/pcap_example.py makes.
+#
+# The program must have been built. QUICK=1 leaves out the captures of a million packets. It also
+# leaves out the check that each packet is written before the next one is sent. A wrapper that
+# changes the output after the program has ended cannot pass that check.
 #
 #   tools/pcap_example.sh [PAGE]
 set -eu
@@ -11,13 +14,13 @@ page=$(readlink -f "${1:-$top/docs/PCAP.md}")
 gateway=$top/examples/pcap/gateway.click
 three=$top/examples/pcap/three.pcap
 
-# The page's example: behind `> ` stands what is run, and all else has to come on standard error.
+# The page's example: lines with `> ` are run, and all others have to be printed on standard error.
 sed -n '/^An example/,/^## /s/^    //p' "$page" > "$work/example"
 sed -n 's/^> //p' "$work/example" > "$work/sent"
 sed '/^> /d' "$work/example" > "$work/wanted"
 is_not_empty "$work/sent" "what $page runs"
 ln -s "$top/examples" "$work/examples"
-click_pcap() { "$pcap" "$@"; }
+click_prog() { "$pcap" "$@"; }
 cd "$work"
 status=0
 . "$work/sent" 2> "$work/err" || status=$?
@@ -27,9 +30,14 @@ is_not_empty "$work/out.pcap" "what the example of $page writes"
 # The page shows the configuration that the example runs.
 sed -n '/^The configuration/,/^An example/s/^    //p' "$page" > "$work/shown"
 same_bytes "$gateway" "$work/shown" "the configuration that $page shows"
-# What the example wrote is checked by the Python too: it runs the same capture.
+# Another run of the capture gives the same output, which tools/pcap_example.py checks.
 cp "$work/out.pcap" "$work/came.pcap"
-ran "$pcap" -e "$(cat "$gateway")" --in eth0 --out eth1 < "$three"
+ran "$pcap" --pcap -e "$(cat "$gateway")" --in eth0 --out eth1 < "$three"
 same_bytes "$work/came.pcap" "$work/out" "the example of $page, written"
+
+# A capture of one packet of three bytes passes a queue unchanged.
+ran "$pcap" --pcap -e 'FromDevice(eth0) -> Queue -> ToDevice(eth1);' --in eth0 --out eth1 < "$top/examples/pcap/abc.pcap"
+same_status 0 "$status" 'a packet of three bytes'
+same_bytes "$top/examples/pcap/abc.pcap" "$work/out" 'a packet of three bytes'
 
 python3 -I "$top/tools/pcap_example.py" "$pcap" "$gateway" "$three" ${QUICK:+quick} || exit 1

@@ -1,9 +1,12 @@
-"""Many control sessions over TCP at once, with drivers beside them: what comes back is held against what one thread can have answered.
+"""Checks control sessions over TCP in parallel: sixteen sessions that read, write and swap while
+drivers make rounds, clients that hang up, and a live router. The replies have to be such that a
+single thread could have got them.
 
     sessions.py PROGRAM CASE
     sessions.py PORT attached
 
-Each case but the last starts the program on a free port of 127.0.0.1 and ends within a minute. Where something is wrong it says what, and ends with 1.
+Each case except `attached` starts the program on a free port of 127.0.0.1 and ends within a minute.
+A failure is printed, and ends the script with status 1.
 """
 import os
 import re
@@ -20,7 +23,7 @@ SECONDS = int(os.environ.get("SECONDS_TO_WAIT", "20"))
 
 
 class Wrong(Exception):
-    """A reply that one thread cannot have given."""
+    """A failed check; the text says what is wrong."""
 
 
 def free_port():
@@ -30,7 +33,7 @@ def free_port():
 
 
 class Router:
-    """The program, listening for so many sessions with so many drivers beside them."""
+    """A program that listens for a number of sessions on a free port, with a number of drivers."""
 
     def __init__(self, program, text, sessions, drivers=0, rounds=0, options=()):
         for _ in range(5):
@@ -42,10 +45,10 @@ class Router:
             time.sleep(0.1)
             if self.process.poll() is None:
                 return
-        raise Wrong("the program does not go on: " + self.process.stderr.read().decode())
+        raise Wrong("the program ended early: " + self.process.stderr.read().decode())
 
     def ends(self, wanted):
-        """The program ends by itself, with this status and without a word."""
+        """Checks that the program ends by itself, with this status and without output."""
         try:
             out, err = self.process.communicate(timeout=SECONDS)
         except subprocess.TimeoutExpired:
@@ -63,7 +66,7 @@ class Router:
 
 
 class Session:
-    """A client that sends a command once the reply to the one before has come."""
+    """A client that reads the reply to each command before it sends the next one."""
 
     def __init__(self, router):
         ends = time.monotonic() + SECONDS
@@ -73,32 +76,35 @@ class Session:
                 break
             except ConnectionRefusedError:
                 if time.monotonic() > ends:
-                    raise Wrong("nobody listens")
+                    raise Wrong("the program does not listen")
                 time.sleep(0.02)
         self.rest = b""
         if self.line() != GREETING:
             raise Wrong("another greeting")
 
     def more(self):
+        """Receives more bytes into `rest`."""
         piece = self.socket.recv(65536)
         if not piece:
             raise Wrong("the session ended early")
         self.rest += piece
 
     def line(self):
+        """Returns the next line, with its CR LF."""
         while b"\r\n" not in self.rest:
             self.more()
         line, self.rest = self.rest.split(b"\r\n", 1)
         return line + b"\r\n"
 
     def bytes(self, count):
+        """Returns the next `count` bytes."""
         while len(self.rest) < count:
             self.more()
         value, self.rest = self.rest[:count], self.rest[count:]
         return value
 
     def reply(self):
-        """The reply's number, its lines, and the value, if it has one."""
+        """Returns the number of the next reply, its lines, and its value or None."""
         lines = [self.line()]
         while lines[-1][3:4] == b"-":
             lines.append(self.line())
@@ -126,12 +132,12 @@ class Session:
         if lines != [b"200 Goodbye!\r\n"]:
             raise Wrong(f"QUIT: {number} {lines!r}")
         if self.socket.recv(1) != b"":
-            raise Wrong("something comes after QUIT")
+            raise Wrong("there is output after the reply to QUIT")
         self.socket.close()
 
 
 def all_at_once(works):
-    """Each of these in a thread of its own; the first that was wrong is raised."""
+    """Runs each of these in its own thread, and raises the first failure."""
     wrong = []
 
     def run(work):
@@ -149,12 +155,15 @@ def all_at_once(works):
     if wrong:
         raise wrong[0]
     if any(thread.is_alive() for thread in threads):
-        raise Wrong("a session waits for ever")
+        raise Wrong("a session does not end")
 
 
 def counting(program):
-    """Sixteen sessions read a counter while four drivers make rounds: it never falls, whoever reads, and ends at the number of rounds' packets, which one
-    more session waits for."""
+    """Checks sixteen sessions that read a counter while four drivers make rounds.
+
+    Over all sessions the counter never falls. It ends at the number of packets of all rounds, for
+    which one more session waits.
+    """
     sessions, drivers, rounds, reads = 16, 4, 1000, 40
     text = "InfiniteSource(ab, 1000000, 1) -> c :: Counter -> Discard; Idle -> s :: Switch(0) -> Discard; s [1] -> Discard;"
     router = Router(program, text, sessions + 1, drivers, rounds)
@@ -189,7 +198,7 @@ def counting(program):
         router.ends(0)
     finally:
         router.stop()
-    # A read that was sent after another's reply had come counts no fewer.
+    # A read that was sent after the reply to another read had come returns at least its value.
     by_end, by_start, highest, at = sorted(seen, key=lambda r: r[1]), sorted(seen), -1, 0
     for sent, _, value in by_start:
         while at < len(by_end) and by_end[at][1] < sent:
@@ -198,12 +207,15 @@ def counting(program):
         if value < highest:
             raise Wrong(f"a counter fell from {highest} to {value}")
     if len(seen) != sessions * reads or not 0 <= max(value for _, _, value in seen) <= drivers * rounds:
-        raise Wrong("another number of reads, or more packets than the rounds can give")
+        raise Wrong("the number of reads is wrong, or there are more packets than the rounds emit")
 
 
 def swapping(program):
-    """Sixteen sessions swap, and try to, while four drivers make rounds: what runs is a text that somebody installed, and not one that was replaced
-    before; a swap is seen by all later reads of its session; a refused one is seen by nobody."""
+    """Checks sixteen sessions that make swaps, also refused ones, while four drivers make rounds.
+
+    A read of `config` returns a configuration that a session installed, and none that was replaced
+    before the read was sent. No read returns a refused configuration.
+    """
     sessions, swaps = 16, 12
     first = b"Idle -> first :: Counter -> Discard;"
     router = Router(program, first.decode(), sessions, 4, 500)
@@ -240,17 +252,21 @@ def swapping(program):
         raise Wrong("another number of swaps or reads")
     for sent, got, value in reads:
         if value not in known:
-            raise Wrong(f"nobody installed {value!r}")
+            raise Wrong(f"no session installed {value!r}")
         began, ended = known[value]
         if began > got:
             raise Wrong(f"{value!r} ran before it was sent")
         for other_sent, other_got, other in installs:
             if other != value and other_sent > ended and other_got < sent:
-                raise Wrong(f"{value!r} was read after {other!r} had taken over")
+                raise Wrong(f"{value!r} was read after {other!r} had replaced it")
 
 
 def clients(program):
-    """A client hangs up in the middle of a payload, one never reads and then resets, one sends a byte at a time: the others go on."""
+    """Checks that three sessions get their replies while three other clients misbehave.
+
+    One hangs up in a payload, one never reads and then resets its connection, and one sends its
+    commands byte by byte.
+    """
     router = Router(program, "Idle -> c :: Counter -> Discard; Idle -> s :: Switch(0) -> Discard; s [1] -> Discard;", 6, 2, 1000)
 
     def hangs_up():
@@ -265,8 +281,8 @@ def clients(program):
             for _ in range(1000):
                 session.socket.sendall(b"READ list\n" * 1000)
         except OSError:
-            pass  # the program waits for it to read, or has given up
-        # Closed with a reset, so that the program's write fails.
+            pass  # the program waits until the client reads, or has ended the session
+        # Closes with a reset, so that the program's write fails.
         session.socket.setsockopt(socket.SOL_SOCKET, socket.SO_LINGER, struct.pack("ii", 1, 0))
         session.socket.close()
 
@@ -276,7 +292,7 @@ def clients(program):
             session.socket.sendall(bytes([byte]))
             time.sleep(0.002)
         if session.reply()[0] != 200 or session.reply()[0] != 200:
-            raise Wrong("a command byte by byte was not answered")
+            raise Wrong("a command that was sent byte by byte was not answered")
         session.quit()
 
     def goes_on():
@@ -294,14 +310,14 @@ def clients(program):
 
 
 def reading(program):
-    """A read-only router refuses writes of all its sessions."""
+    """Checks that --readonly refuses the writes of all sessions."""
     router = Router(program, "Idle -> s :: Switch(0) -> Discard; s [1] -> Discard;", 2, options=["--readonly"])
 
     def work():
         session = Session(router)
         number, lines, _ = session.write(b"s.switch", b"1")
         if (number, lines) != (530, [b"530 Permission denied for 's.switch'\r\n"]):
-            raise Wrong(f"a write where only reads are allowed: {lines!r}")
+            raise Wrong(f"a write in a read-only session: {lines!r}")
         if session.read(b"s.switch") != b"0":
             raise Wrong("the switch was written")
         session.quit()
@@ -314,7 +330,7 @@ def reading(program):
 
 
 def taken(program):
-    """Where it cannot listen, no session can come in."""
+    """Checks that the program ends with status 4 if its port is taken."""
     with socket.socket() as other:
         other.bind(("127.0.0.1", 0))
         other.listen()
@@ -325,19 +341,23 @@ def taken(program):
 
 
 def staying(program):
-    """A router that stays: at one place come more sessions than there are places, one after another, some of which hang up, while a driver goes on. All read
-    and write one router, the driver's packets come to their end and no more, one session waits until another leaves, and SIGTERM ends the program."""
+    """Checks a live router with one session slot and a driver.
+
+    It serves many sessions, one after another, some of which hang up, and all of them at one
+    router. The driver emits all packets of the source. A second client waits until the session
+    before it ends. SIGTERM ends the program.
+    """
     text = "InfiniteSource(ab, 3000, 1) -> c :: Counter -> Discard; Idle -> s :: Switch(0) -> Discard; s [1] -> Discard;"
     router = Router(program, text, 1, 1, None, ["--live"])
     try:
         for n in range(30):
             session = Session(router)
             if session.read(b"s.switch") != b"%d" % (n % 2):
-                raise Wrong("a session does not find what the one before it has written")
+                raise Wrong("a session does not read the value that the session before it wrote")
             if session.write(b"s.switch", b"%d" % ((n + 1) % 2))[0] != 200:
                 raise Wrong("a write was refused")
             if n % 3 == 2:
-                session.socket.close()  # hung up: the place is free again too
+                session.socket.close()  # a session that hangs up frees its slot too
             else:
                 session.quit()
         session = Session(router)
@@ -350,7 +370,7 @@ def staying(program):
             other.settimeout(0.5)
             try:
                 other.recv(1)
-                raise Wrong("a second session was served at one place")
+                raise Wrong("a second session was served at the same time")
             except TimeoutError:
                 pass
             session.quit()
@@ -366,7 +386,7 @@ def staying(program):
 
 
 def attached(port):
-    """Two sessions at a router that listens on this port read its counter `c` and leave."""
+    """Checks two sessions that read the counter `c` of a router that listens on this port."""
 
     class Listening:
         pass

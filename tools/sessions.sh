@@ -1,13 +1,13 @@
 #!/usr/bin/env bash
-# Many control sessions over TCP at once, as Python's sockets and nc make them: tools/sessions.py says what is tried and what must come. With cases, only
-# these are tried.
+# Runs the cases of tools/sessions.py, or only the named ones. Without names it also checks README's
+# command that listens, and a session by nc, if it is installed.
 #
 #   tools/sessions.sh [CASE..]
 set -eu
 . "$(dirname "$(readlink -f "$0")")/lib/checking.sh"
 is_built "$program"
 
-# tried CASE
+# tried CASE: runs a case.
 tried() {
     ran timeout 120 python3 "$top/tools/sessions.py" "$program" "$1"
     same_status 0 "$status" "$1: $(cat "$work/err")"
@@ -19,7 +19,7 @@ if [ $# -gt 0 ]; then
 fi
 for case in counting swapping clients reading taken staying; do tried "$case"; done
 
-# README's command that listens, as it stands there.
+# README's command that listens, taken from the page.
 command=$(grep -m 1 '^    \./run\.sh.* -p 7777' "$top/README.md" | sed 's/^    //')
 if [ -z "$command" ]; then fail 'README has no indented line that begins with ./run.sh and has -p 7777'; fi
 mkdir "$work/top"
@@ -33,7 +33,7 @@ wait "$pid" || status=$?
 is_empty "$work/said" "what README's command that listens says"
 same_status 0 "$status" "README's command that listens"
 
-# nc, where it is there: it sends all at once, and what comes back is the whole session.
+# nc, if it is installed: it sends all commands at once, and its output is the whole session.
 if command -v nc > /dev/null; then
     port=$((20000 + RANDOM % 20000))
     timeout 60 "$program" -e 'Idle -> c :: Counter -> Discard;' -p "$port" > "$work/said" 2>&1 &
@@ -47,4 +47,4 @@ if command -v nc > /dev/null; then
     is_empty "$work/said" 'what the program says'
     same_status 0 "$status" 'a session by nc'
 fi
-echo 'sessions over TCP: all answered as one thread can have answered them'
+echo 'sessions over TCP: each reply is one that a single thread could get'

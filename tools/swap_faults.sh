@@ -1,8 +1,11 @@
 #!/usr/bin/env bash
-# Swaps to faulty texts: those of docs/FAULTS.md, of examples/faults.txt and of the faulty configurations of examples/. Each is refused with its own
-# fault by a router that runs with packets queued, and by one under a session, which both stay as they were; then a good text takes over. Every fault has
-# to be among them but 6 TooLarge and 7 NoMemory: a text that is too large fits in no line of calls and in no payload (click_tests tries it), and want of
-# memory is no text's fault (tools/refuse.sh tries it). The programs must have been built.
+# Checks swaps to faulty configurations: those of docs/FAULTS.md, of examples/faults.txt and of the
+# faulty examples. Each is refused with its fault, by calls to a router with queued packets and in a
+# session. The router is unchanged, and a swap to a good configuration succeeds.
+#
+# All faults have to occur except 6 TooLarge and 7 NoMemory. A text that is too large fits in no
+# line of calls and in no payload, so tests/swaps.script checks that fault. tools/alloc_failures.py
+# checks swaps that run out of memory. The programs must have been built.
 set -eu
 . "$(dirname "$(readlink -f "$0")")/lib/checking.sh"
 is_built "$program" "$calls"
@@ -12,14 +15,16 @@ good='FromDevice(a) -> q :: Queue(5) -> ToDevice(b);'
 : > "$work/seen"
 tried=0
 
-# code CELL: what stands in the backquotes of a table's cell.
+# code CELL: prints the code of a table's cell, which is in backquotes.
 code() {
     local text=${1#*\`}
     printf '%s' "${text%\`*}"
 }
 
-# fault_rows PAGE: of each row of a page as docs/FAULTS.md the fault's number and name, its example, and the line that it shows, with tabs between. A row is
-# `| number name | meaning | place | example | line | what to do |`; example and line are in backquotes, where a bar is written `\|`.
+# fault_rows PAGE: prints, for each row of docs/FAULTS.md, the number and name of the fault, its
+# example and its line, separated by tabs. A row is
+# `| number name | meaning | place | example | line | what to do |`. Example and line are in
+# backquotes, in which a bar is written `\|`.
 fault_rows() {
     local row fault example line
     while IFS= read -r row; do
@@ -29,14 +34,16 @@ fault_rows() {
     done < <(grep '^| [0-9]' "$1")
 }
 
-# fault_kinds: the number and the name of each fault, as the layers name them, one a line, in order.
+# fault_kinds: prints the number and the name of each fault in the code, one per line, in order.
 fault_kinds() {
     sed -n 's/^ *[A-Za-z]*::[A-Za-z]* => "\([0-9]* [A-Za-z]*\)",$/\1/p' "$top"/crates/click_text/src/syntax.rt "$top"/crates/click_{scopes,expand,classes,ports}/src/fault.rt | sort -n -u
 }
 
+# hex TEXT: prints the bytes of the text in hex digits.
 hex() { printf '%s' "$1" | od -An -v -tx1 | tr -d ' \n'; }
 
-# Calls with their replies behind ` => `: packets enter, the swap of SWAP is refused, and all is as it was; then a good text takes over.
+# Calls with their replies, after ` => `. Packets enter, the swap in the line SWAP is refused, and
+# everything is unchanged. Then a good configuration is installed.
 cat > "$work/rows" << E
 arrive a 01 => entered 1
 arrive a 02 => entered 1
@@ -66,7 +73,8 @@ transmit b => sent 02 0 0.0.0.0
 transmit b => sent none
 E
 
-# by_calls FAULT TEXT: the text, a line, is refused with the fault between calls.
+# by_calls FAULT TEXT: checks that the text, one line, is refused with the fault, by the calls
+# above.
 by_calls() {
     local row
     while IFS= read -r row; do
@@ -75,16 +83,16 @@ by_calls() {
         printf '%s\n' "${row% => *}" >&3
         printf '%s\n' "${row##* => }" >&4
     done < "$work/rows" 3> "$work/sent" 4> "$work/wanted"
-    ran "$calls" -e "$running" < "$work/sent"
+    ran "$calls" --calls -e "$running" < "$work/sent"
     same_bytes "$work/wanted" "$work/out" "the swap to: $2"
     is_empty "$work/err" "standard error at the swap to: $2"
     same_status 0 "$status" "the swap to: $2"
 }
 
-# read_as HANDLER VALUE: what a session writes where the handler has the value.
+# read_as HANDLER VALUE: prints the reply of a session to a read of the handler.
 read_as() { printf "200 Read handler '%s' OK\r\nDATA %s\r\n%s" "$1" "${#2}" "$2"; }
 
-# by_session FAULT TEXT: the text is refused with the fault in a session.
+# by_session FAULT TEXT: checks that the text is refused with the fault in a session.
 by_session() {
     {
         printf 'WRITE q.capacity 7\nWRITE s.switch 1\nWRITEDATA hotconfig %s\n%s' "${#2}" "$2"
@@ -109,7 +117,8 @@ by_session() {
     same_status 0 "$status" "the session that writes to hotconfig: $2"
 }
 
-# refuses FAULT TEXT: both refuse the text with the fault. A line of calls holds no text of several lines.
+# refuses FAULT TEXT: checks both. By calls only texts of one line are tried, because a call is a
+# line.
 refuses() {
     local number name
     read -r number name _ <<< "$1"
@@ -133,7 +142,7 @@ while IFS=$'\t' read -r fault text; do
     refuses "$fault" "$text"
 done < "$top/examples/faults.txt"
 for file in "$top"/examples/*.fault; do
-    # What is told at the end of a run is no fault.
+    # Other .fault files have what a run prints at its end.
     if ! grep -q '^click_prog: ' "$file"; then continue; fi
     line=$(cat "$file")
     refuses "${line#click_prog: }" "$(cat "${file%.fault}.click")"
@@ -143,7 +152,8 @@ fault_kinds | grep -v -x -e '6 TooLarge' -e '7 NoMemory' > "$work/kinds"
 sort -u "$work/seen" | sort -n > "$work/numbers"
 same_bytes "$work/kinds" "$work/numbers" 'the faults that swaps were refused with'
 
-# The longest payload is no text that is too large, and one byte more is no payload.
+# A configuration as long as a payload can be is accepted, and a payload of one byte more is
+# refused.
 longest=$(printf 'Idle;%1048571s' '')
 printf 'WRITEDATA hotconfig 1048576\n%sREAD list\nREAD config\nWRITEDATA hotconfig 1048577\n%s QUIT\n' "$longest" "$longest" > "$work/sent"
 {
@@ -156,4 +166,4 @@ ran "$program" -e "$running" < "$work/sent"
 same_bytes "$work/wanted" "$work/out" 'a text as long as a payload can be'
 is_empty "$work/err" 'standard error at a text as long as a payload can be'
 same_status 0 "$status" 'a text as long as a payload can be'
-echo "$tried faulty texts refused by swaps, which change nothing"
+echo "$tried faulty texts: refused by swaps, which changed nothing"

@@ -1,18 +1,20 @@
 #!/usr/bin/env bash
-# Swaps at the limits, through click_calls: 4,096 elements to 4,096 others, and queues of 10,000 packets that are taken over. Which packet stands where,
-# and what each queue counts, is worked out here from the rule: a Queue or a FrontDropQueue takes the first packets of the one that had its name, as many
-# as it has room for, and the others are its drops. The program must have been built.
+# Checks swaps at the limits: 4,096 elements are replaced by 4,096 others, and queues of 10,000
+# packets are taken over. The expected packets and counts are computed here from the rule. A Queue
+# or a FrontDropQueue takes over the first packets of the queue with its name and class, up to its
+# capacity, and counts the others as drops. The program must have been built.
 set -eu
 . "$(dirname "$(readlink -f "$0")")/lib/checking.sh"
 is_built "$calls"
 export LC_ALL=C
 
-# answered WHAT TEXT: over the configuration of the text each call of $work/rows is answered, within two minutes, as stands behind the tab of its line.
+# answered WHAT TEXT: checks that each call of $work/rows gets the reply after the tab of its line,
+# from a router with this configuration. All calls together take at most two minutes.
 answered() {
     is_not_empty "$work/rows" "the calls of $1"
     cut -f 1 "$work/rows" > "$work/sent"
     cut -f 2 "$work/rows" > "$work/wanted"
-    ran timeout 120 "$calls" -e "$2" < "$work/sent"
+    ran timeout 120 "$calls" --calls -e "$2" < "$work/sent"
     if ! cmp -s "$work/wanted" "$work/out"; then
         fail "$1: calls, what was wanted, and what came, at the first difference" \
             "$(paste "$work/rows" "$work/out" | awk -F '\t' '$2 != $3 { print NR ": " substr($0, 1, 1000); exit }')"
@@ -22,7 +24,8 @@ answered() {
     echo "$1: $(wc -l < "$work/rows") calls answered"
 }
 
-# Functions of the generators below, which write rows of calls and replies. What is read is a number in decimal digits.
+# Functions of the generators below, which write rows of calls and replies. Values are numbers in
+# decimal digits.
 functions='
 function hex(text,  i, all) { for (i = 1; i <= length(text); i++) all = all "3" substr(text, i, 1); return all }
 function row(call, reply) { printf "%s\t%s\n", call, reply }
@@ -31,10 +34,21 @@ function counts(queue, stored, drops, highwater) { reads(queue ".length", stored
 '
 
 # --- 4,096 elements to 4,096 others. ---
-# 1,365 chains of three elements, each with its own devices and a queue for two packets, and one element more. Into chain k enter k mod 4 packets.
 #
-# The successor has the chains the other way round. By k mod 8 a chain keeps the queue and its room (0, 1), keeps it with room for one (2, 3), has one of
-# another name (4, 5), or one of the other class (6, 7).
+# The first configuration has 1,365 chains of three elements, and one more element. Each chain has
+# its own devices and a queue for two packets. k mod 4 packets enter chain k.
+#
+# Its successor has the chains in reverse order. What a chain has there depends on k mod 8:
+#
+# 0, 1: the same queue with the same capacity.
+#
+# 2, 3: the same queue with a capacity of one.
+#
+# 4, 5: a queue of another name.
+#
+# 6, 7: a queue of the other class.
+
+# elements first|others: prints one of these two configurations.
 elements() {
     awk -v which="$1" 'BEGIN {
         for (k = 0; k < 1365; k++) {
@@ -58,7 +72,7 @@ many=$(awk 'BEGIN { for (k = 0; k < 4096; k++) printf "Idle;" }')
             counts("q" k, stored, k % 4 - stored, stored)
         }
     }'
-    # One element more is too many, and nothing changes.
+    # A swap to 4,097 elements is refused and changes nothing.
     printf 'swap %s\trefused Config 16 TooMany\n' "${others}Idle;"
     printf 'read q0.length\tvalue 30\nread q1364.length\tvalue 30\nread q1363.length\tvalue 32\nread q1363.drops\tvalue 31\n'
     printf 'swap %s\tdone\n' "$others"
@@ -75,7 +89,7 @@ many=$(awk 'BEGIN { for (k = 0; k < 4096; k++) printf "Idle;" }')
             row("transmit e" k, "sent none")
         }
     }'
-    # Others without any name of these, and back: every queue is empty.
+    # After a swap to elements with other names and a swap back, every queue is empty.
     printf 'arrive d8 aa\tentered 1\nswap %s\tdone\nread list\tvalue %s\narrive d8 aa\tnodevice\ntransmit e8\tnodevice\n' "$many" \
         "$({ echo 4096; seq -f 'Idle@%.0f' 4096; } | od -An -v -tx1 | tr -d ' \n')"
     printf 'swap %s\tdone\n' "$first"
@@ -83,12 +97,13 @@ many=$(awk 'BEGIN { for (k = 0; k < 4096; k++) printf "Idle;" }')
 } > "$work/rows"
 answered '4,096 elements and 4,096 others' "$first"
 
-# --- 10,000 packets. ---
-# Packet k has its number in three bytes, and k mod 5 bytes after them. The first three leave and others enter, so that the queue goes round its room; then
-# ten more find none: the Queue drops these, and the FrontDropQueue as many from its front. What it holds is taken over by queues with as much room, less,
-# more, and just enough, and at last each packet is pulled.
+# --- 10,000 packets. --- Packet k has its number in three bytes, and k mod 5 bytes after them. The
+# first three packets leave and others enter, so that the ring buffer of the queue wraps around.
+# Then ten more packets find no room: a Queue drops them, and a FrontDropQueue drops its ten oldest.
+# The packets are taken over by queues with the same capacity, less, more, and exactly enough. At
+# the end each packet is pulled.
 
-# taken_over CLASS: the rows of a queue of that class.
+# taken_over CLASS: prints the rows of a queue of that class.
 taken_over() {
     awk -v class="$1" "$functions"'
     function packet(k,  i, text) { text = sprintf("%06x", k); for (i = 0; i < k % 5; i++) text = text sprintf("%02x", k % 251); return text }
@@ -118,7 +133,8 @@ taken_over() {
         swap(6001); counts("q", 6001, 0, 6001)
         for (k = 0; k < 6000; k++) leaves(head + 3 + k)
         leaves(30001); row("transmit b", "sent none"); counts("q", 0, 0, 6001)
-        # A swap between packets that enter; room for one alone; and ten thousand that are pulled after a swap to the same text.
+        # A swap between packets that enter, a capacity of one, and ten thousand packets that are
+        # pulled after a swap to the same configuration.
         enter(40001, 46001); swap(10000); enter(46002, 50000); swap(10000); counts("q", 10000, 0, 10000)
         swap(1); counts("q", 1, 9999, 1); leaves(40001); row("transmit b", "sent none")
         swap(10000); enter(50001, 60000); swap(10000); counts("q", 10000, 0, 10000)

@@ -1,12 +1,19 @@
 #!/usr/bin/env python3
-"""Links of devices, from outside: plain UDP sockets beside the program. Each packet that goes in comes out or stands in a count; and use that means no good.
+"""Checks links from outside, with plain UDP sockets. Of 200,000 packets, half in each direction,
+each comes out exactly once and in order, or is counted as dropped. Other cases have datagrams of
+all lengths and from other senders, links at 127.0.0.2, an endless source and a missing peer. There
+are also a swap that removes a device, a flood, and an idle router. The counts are printed every
+second, even if no process reads them.
 
     tools/udp_links.py [CASE..]
 
-The program must have been built; PROGRAM names another one that is checked in its place, and PACKETS another number of packets than 200,000. Each case
-starts it on free ports of 127.0.0.1 and ends within some 12 seconds. Where something is wrong it says what, and ends with 1.
+The program must have been built. PROGRAM names another program to check, and PACKETS another number
+of packets than 200,000. Each case starts the program on free ports of 127.0.0.1 and ends within
+some 12 seconds. A failure is printed, and ends the script with status 1.
 
-What the kernel dropped since a socket had no room is no loss of the program's: the kernel counts it for each socket, and here it is added."""
+The program is not to blame for datagrams that the kernel drops when a socket's buffer is full. The
+kernel counts them for each socket, and the checks add this count.
+"""
 import fcntl
 import multiprocessing
 import os
@@ -22,23 +29,30 @@ import time
 from collections import namedtuple
 
 sys.dont_write_bytecode = True
+sys.path.append(f"{os.path.dirname(os.path.realpath(__file__))}/lib")
 from hostile import Pipes, listeners, until
+from programs import path_of
 from sessions import GREETING, SECONDS, Session, Wrong, free_port
 
-TOP = os.path.dirname(os.path.dirname(os.path.realpath(__file__)))
-PROGRAM = os.environ.get("PROGRAM") or f"{TOP}/crates/click_prog/out/click_prog"
+PROGRAM = path_of("click_prog")
 HOST = "127.0.0.1"
-# Another address of this host, at which links and peers may be too.
+# Another address of this host, for links and peers.
 OTHER = "127.0.0.2"
-# The most bytes of a packet, and the packets that a feed has room for.
+# The maximum number of bytes of a packet, and of packets in a feed.
 LONGEST, PLACES = 1600, 1024
-# Beside a flood of three seconds so many reads of a session are answered at least, each after so many seconds at most, though each call of the forwarder holds the
-# router for milliseconds: who calls while others wait lets them look first.
+# The minimum number of reads that a session gets answered during a flood of three seconds, and the
+# maximum seconds that a read takes. Each call of the forwarder holds the router for milliseconds,
+# but the forwarder yields to waiting threads first.
 FEWEST_READS, LONGEST_WAIT = 50, 2
-# Beside a source without end the program ends after so many seconds at most.
+# The maximum number of seconds until the program ends while it has an endless source.
 LONGEST_END = 5
-# After so many seconds without a packet no more comes.
+# The maximum number of seconds that peers take for all their packets, on a busy machine.
+LONGEST_WORK = 120
+# The number of seconds without a packet after which no more packets are expected.
 QUIET = 5
+# The maximum number of packets on their way in each direction: fewer than a feed, a queue of the
+# text and a socket's buffer hold.
+WINDOW = 100
 FORK = multiprocessing.get_context("fork")
 
 Counts = namedtuple("Counts", "received elsewhere long room memory entered sent failed")
@@ -48,12 +62,13 @@ LINE = re.compile(
 
 
 def same(wanted, came, what):
+    """Checks that two values are equal."""
     if wanted != came:
         raise Wrong(f"{what}: wanted {wanted!r:.400}, came {came!r:.400}")
 
 
 def bound(port=0, host=HOST):
-    """A UDP socket with as much room as is to be had."""
+    """Returns a UDP socket with a receive buffer of 4 MB, or as much of it as the system allows."""
     it = socket.socket(socket.AF_INET, socket.SOCK_DGRAM)
     it.setsockopt(socket.SOL_SOCKET, socket.SO_RCVBUF, 1 << 22)
     it.bind((host, port))
@@ -62,24 +77,28 @@ def bound(port=0, host=HOST):
 
 
 def udp_row(port, host=HOST):
-    """What the kernel says of the UDP socket of this port; None where there is none."""
+    """Returns the kernel's row about the UDP socket of this port, or None if there is none."""
     address = int.from_bytes(socket.inet_aton(host), "little")
     with open("/proc/net/udp", encoding="ascii") as rows:
         return next((row.split() for row in rows if row.split()[1] == f"{address:08X}:{port:04X}"), None)
 
 
 def lost_at(port):
-    """How many datagrams the kernel has dropped since this socket had no room."""
+    """Returns the number of datagrams that the kernel dropped because this socket was full."""
     return int(udp_row(port)[12])
 
 
 def is_heard(link):
-    """Whether no datagram waits at this link's socket."""
+    """Returns whether no datagram waits at this link's socket."""
     return udp_row(link.here, link.host)[4].endswith(":00000000")
 
 
 class Link:
-    """A device, the program's port HERE, and our socket THERE, both at one address. Without a socket nobody is at THERE, or it is an address of its own."""
+    """A link of the program: a device, the local port of the program, and a socket for the peer.
+
+    Both are at one address. If `is_open` is false, no socket is open at the peer's port. `there`
+    names another address for the peer.
+    """
 
     def __init__(self, device, there=None, is_open=True, host=HOST):
         free = bound(host=host)
@@ -92,23 +111,26 @@ class Link:
             self.socket.close()
 
     def place(self, port):
-        """As the command line names it: a port alone is one of 127.0.0.1."""
+        """Returns a port as an option names it: alone for 127.0.0.1, else with its address."""
         return str(port) if self.host == HOST else f"{self.host}:{port}"
 
     def word(self):
+        """Returns the argument of the option --link."""
         return f"{self.device}={self.place(self.here)},{self.there}"
 
     def give(self, packet):
+        """Sends a datagram to the link."""
         self.socket.sendto(packet, (self.host, self.here))
 
     def take(self):
+        """Receives a datagram from the link and checks where it comes from."""
         packet, sender = self.socket.recvfrom(65536)
         same((self.host, self.here), sender, f"where a datagram of {self.device} comes from")
         return packet
 
 
 class Talk(Session):
-    """A session over two streams or a socket, whose program is running."""
+    """A control session over pipes or a socket, with a program that is running."""
 
     def __init__(self, stream):
         self.socket, self.rest = stream, b""
@@ -118,8 +140,16 @@ class Talk(Session):
         same(200, self.write(b"hotconfig", text.encode())[0], f"a swap to {text}")
 
 
+class PortTaken(Wrong):
+    """The program ended before it listened, most likely because another process took a free port."""
+
+
 class Router:
-    """The program with these links. Without a port a session is on standard input and output, and its end is the program's."""
+    """The program with these links and a session.
+
+    With a port the session is over TCP. Otherwise it is on standard input and output, and the
+    program ends with it.
+    """
 
     def __init__(self, text, links, *options, port=None, said=subprocess.PIPE):
         words = [PROGRAM, "--live", "-e", text, *options]
@@ -131,7 +161,9 @@ class Router:
         self.process = subprocess.Popen(words, stdin=subprocess.PIPE, stdout=subprocess.PIPE, stderr=said)
         try:
             if port:
-                until(lambda: listeners(port) or self.process.poll() is not None, "nobody listens")
+                until(lambda: listeners(port) or self.process.poll() is not None, "the program does not listen")
+                if self.process.poll() is not None:
+                    raise PortTaken(f"the program ended with status {self.process.returncode} before it listened at port {port}")
                 self.session = Talk(socket.create_connection((HOST, port), timeout=SECONDS))
             else:
                 self.session = Talk(Pipes(self.process))
@@ -154,7 +186,7 @@ class Router:
         self.process.wait()
 
     def is_idle(self, what):
-        """It takes next to no time of a processor."""
+        """Checks that the program uses at most 0.2 s of processor time in one second."""
 
         def ticks():
             with open(f"/proc/{self.process.pid}/stat", encoding="ascii") as row:
@@ -165,11 +197,14 @@ class Router:
         time.sleep(1)
         took = (ticks() - before) / os.sysconf("SC_CLK_TCK")
         if took > 0.2:
-            raise Wrong(f"in an idle second {what} it took {took} s of processors")
+            raise Wrong(f"in an idle second {what} the program used {took} s of processor time")
 
     def ends(self):
-        """Ends the session on standard input, and with it the program: the counts of each link, which are all that it says."""
-        until(lambda: all(is_heard(it) for it in self.links), "a link does not read what comes")
+        """Ends the session on standard input, and so the program. Returns the counts of each link.
+
+        Checks that they are all that the program prints.
+        """
+        until(lambda: all(is_heard(it) for it in self.links), "a link does not read its datagrams")
         self.session.socket.sendall(b"QUIT\n")
         try:
             out, said = self.process.communicate(timeout=SECONDS)
@@ -177,13 +212,16 @@ class Router:
             raise Wrong("the program does not end with its session")
         same((b"200 Goodbye!\r\n", 0), (self.session.rest + out, self.process.returncode), "the end, and its status")
         tellings = tellings_of(said, self.links)
-        same(1, len(tellings), "how many times the program tells its counts")
+        same(1, len(tellings), "how many times the program prints its counts")
         return tellings[0]
 
 
 def tellings_of(said, links):
-    """What the program says is nothing but a line for each link, in their order, once or several times."""
-    same([], [it for it in said.splitlines(True) if not LINE.fullmatch(it)], "lines of standard error that are of no link")
+    """Returns the counts of each link, for each time that the program printed them.
+
+    Checks that the program printed one line for each link, in order, and nothing else.
+    """
+    same([], [it for it in said.splitlines(True) if not LINE.fullmatch(it)], "lines of standard error that are not counts of a link")
     rows = [LINE.fullmatch(it).groups() for it in said.splitlines(True)]
     same([it.device.encode() for it in links] * (len(rows) // len(links)), [row[0] for row in rows], "the devices of the lines")
     counts = [Counts(*map(int, row[1:])) for row in rows]
@@ -191,22 +229,22 @@ def tellings_of(said, links):
 
 
 def entering(count, sent=0):
-    """The counts of a link to which so many packets came, all of which entered."""
+    """Returns the counts of a link that received `count` packets, all of which entered."""
     return Counts(count, 0, 0, 0, 0, count, sent, 0)
 
 
 def leaving(sent, failed=0):
-    """The counts of a link to which nothing came."""
+    """Returns the counts of a link that received nothing."""
     return Counts(0, 0, 0, 0, 0, 0, sent, failed)
 
 
 def adds_up(counts):
-    """Nothing is between the socket and the router any more."""
-    same(counts.received, counts.elsewhere + counts.long + counts.room + counts.memory + counts.entered, f"received, and what became of it, in {counts}")
+    """Checks that each received datagram entered or is counted as dropped."""
+    same(counts.received, counts.elsewhere + counts.long + counts.room + counts.memory + counts.entered, f"received, against dropped and entered, in {counts}")
 
 
 def at_once(*works):
-    """Each of these in a process of its own; what they answer."""
+    """Runs each of these in its own process, in parallel, and returns their results."""
 
     def run(work, answers):
         try:
@@ -214,7 +252,7 @@ def at_once(*works):
         except Exception as error:
             answers.send((False, f"{type(error).__name__}: {error}"))
 
-    ends, started = time.monotonic() + 3 * SECONDS, []
+    ends, started = time.monotonic() + LONGEST_WORK, []
     for work in works:
         ours, theirs = FORK.Pipe(False)
         process = FORK.Process(target=run, args=(work, theirs), daemon=True)
@@ -224,7 +262,7 @@ def at_once(*works):
         found = []
         for _, answers in started:
             if not answers.poll(max(0, ends - time.monotonic())):
-                raise Wrong("a peer does not come to its end")
+                raise Wrong("a peer does not end")
             is_good, answer = answers.recv()
             if not is_good:
                 raise Wrong(answer)
@@ -236,28 +274,43 @@ def at_once(*works):
             process.join()
 
 
-# Packets that tell where they belong
+# Packets that identify themselves
 
 
 def packet_of(way, number):
-    """Of 12 to 99 bytes, all of which its way and number tell."""
+    """Returns the packet of this direction and number: 12 to 99 bytes, which depend on both."""
     return struct.pack(">4sQ", way.encode().ljust(4), number) + bytes((number + at) % 256 for at in range(number % 88))
 
 
-def gives_all(link, way, count, rate):
-    """Sends so many packets, so many a second."""
-    packets, began = [packet_of(way, it) for it in range(count)], time.monotonic()
+def gives_all(link, way, count, rate, reached=None):
+    """Sends `count` packets at no more than this rate per second. Returns the seconds that it took.
+
+    If given, `reached` holds the number of the last packet that the receiver got. At most WINDOW
+    packets are then on their way, so that a busy machine slows the test down and loses no packets.
+    If the receiver gets nothing for a second, the packets on their way are lost, and the next window
+    begins.
+    """
+    packets, began, passed = [packet_of(way, it) for it in range(count)], time.monotonic(), 0
     for number, packet in enumerate(packets):
         early = began + number / rate - time.monotonic()
         if early > 0.001:
             time.sleep(early)
+        waits_until = time.monotonic() + 1
+        while reached and number - max(passed, reached.value) > WINDOW:
+            if time.monotonic() > waits_until:
+                passed = number
+            time.sleep(0.0005)
         link.give(packet)
     return time.monotonic() - began
 
 
-def takes_all(link, way, count):
-    """Takes packets until none comes: how many came. Each is as it was sent, none comes twice, and none before one that was sent before it."""
-    # (whoever sends makes all packets first, which takes long where others have the processors)
+def takes_all(link, way, count, reached=None):
+    """Receives packets until no more come, and returns their number.
+
+    Checks that each packet is unchanged, that none comes twice, and that they come in order.
+    Stores the number of the last packet in `reached`, if given.
+    """
+    # The sender first makes all packets, which takes long if the processors are busy.
     link.socket.settimeout(SECONDS)
     came, next_one = 0, 0
     try:
@@ -267,18 +320,20 @@ def takes_all(link, way, count):
                 link.socket.settimeout(QUIET)
             number = struct.unpack(">4sQ", packet[:12])[1] if len(packet) >= 12 else -1
             if number < next_one or packet != packet_of(way, number):
-                raise Wrong(f"{way}: {packet!r} came where number {next_one} or a later one was next")
+                raise Wrong(f"{way}: {packet!r} came, but packet {next_one} or a later one was expected")
             came, next_one = came + 1, number + 1
+            if reached:
+                reached.value = number
     except TimeoutError:
         pass
     return came
 
 
 def is_carried(source, sink, numbers, way="one"):
-    """Packets one at a time: each comes out."""
+    """Sends packets one at a time, and checks that each comes out."""
     for number in numbers:
         source.give(packet_of(way, number))
-        same(packet_of(way, number), sink.take(), f"packet {number} of those that go one at a time")
+        same(packet_of(way, number), sink.take(), f"packet {number} of those that are sent one at a time")
 
 
 PLAIN = "FromDevice(a) -> c :: Counter -> q :: Queue(1000) -> ToDevice(b);"
@@ -288,12 +343,16 @@ PLAIN = "FromDevice(a) -> c :: Counter -> q :: Queue(1000) -> ToDevice(b);"
 
 
 def carrying():
-    """200,000 packets, half of them each way at once, 10,000 a second each way: each is back once, in order, or in just one count."""
+    """Checks 200,000 packets, half in each direction, at up to 10,000 per second and direction.
+
+    Each packet comes out exactly once and in order, or is in exactly one count.
+    """
     text = "FromDevice(a) -> ca :: Counter -> qb :: Queue(1000) -> ToDevice(b); FromDevice(b) -> cb :: Counter -> qa :: Queue(1000) -> ToDevice(a);"
     a, b, count, rate = Link("a"), Link("b"), int(os.environ.get("PACKETS", "200000")) // 2, 10_000
+    ab, ba = FORK.Value("q", 0, lock=False), FORK.Value("q", 0, lock=False)
     with Router(text, [a, b]) as router:
-        taking = [lambda: takes_all(b, "ab", count), lambda: takes_all(a, "ba", count)]
-        giving = [lambda: gives_all(a, "ab", count, rate), lambda: gives_all(b, "ba", count, rate)]
+        taking = [lambda: takes_all(b, "ab", count, ab), lambda: takes_all(a, "ba", count, ba)]
+        giving = [lambda: gives_all(a, "ab", count, rate, ab), lambda: gives_all(b, "ba", count, rate, ba)]
         came = dict(zip("ba", at_once(*taking, *giving)))
         lost = {port: lost_at(port) for link in (a, b) for port in (link.here, link.port)}
         drops = {it: int(router.session.read(b"q%s.drops" % it.encode())) for it in "ab"}
@@ -305,14 +364,14 @@ def carrying():
         same(count, counts[here].received + lost[source.here], f"what was sent {what}")
         same((0, 0, 0), counts[here][1:3] + counts[here][4:5], f"from elsewhere, too long and no memory {what}")
         same(counts[here].entered, counted[here], f"what entered {what}")
-        same(counts[here].entered, drops[there] + counts[there].sent + counts[there].failed, f"what entered, and what became of it {what}")
+        same(counts[here].entered, drops[there] + counts[there].sent + counts[there].failed, f"what entered, against dropped, sent and failed {what}")
         same(counts[there].sent, came[there] + lost[sink.port], f"what was sent, and what came {what}")
         if came[there] < count * 9 // 10:
             raise Wrong(f"of {count} packets only {came[there]} came {what}")
 
 
 def sizes():
-    """Datagrams of the least and the most bytes, too long ones, and ones from elsewhere: what comes out, and the lines, to the digit."""
+    """Checks datagrams of all lengths and from other senders, with exact counts."""
     a, b, other = Link("a"), Link("b"), bound()
     with Router(PLAIN, [a, b]) as router:
         for size in (0, 1, LONGEST, 0, LONGEST + 1, 65_507, LONGEST):
@@ -323,7 +382,7 @@ def sizes():
         for size in (0, 5, LONGEST + 1):
             other.sendto(b"x" * size, (HOST, a.here))
         other.sendto(b"y", (HOST, b.here))
-        # What the one link's peer sends to the other link is from elsewhere, too.
+        # A datagram from the peer of another link is from elsewhere too.
         a.socket.sendto(b"z", (HOST, b.here))
         is_carried(a, b, range(20))
         router.is_idle("with nothing to do")
@@ -332,7 +391,10 @@ def sizes():
 
 
 def addresses():
-    """Links at an address of their own: they are there and nowhere else, and from the same port of another address nothing enters."""
+    """Checks links at 127.0.0.2: they listen at no other address.
+
+    A datagram from the peer's port at another address does not enter.
+    """
     a, b = Link("a", host=OTHER), Link("b", host=OTHER)
     with Router(PLAIN, [a, b]) as router, bound(a.port) as stranger:
         for link in (a, b):
@@ -343,12 +405,16 @@ def addresses():
 
 
 def endless():
-    """Beside a source that goes on for ever, whose packets leave by a link, the run ends with its session: soon, with its status and its counts."""
+    """Checks that a run with an endless source, whose packets leave by a link, ends with its
+    session.
+
+    It ends within seconds, with its status and its counts.
+    """
     a, b = Link("a"), Link("b")
     with Router("FromDevice(a) -> c :: Counter -> Discard; s :: InfiniteSource(ab) -> q :: Queue -> ToDevice(b);", [a, b]) as router:
         session = router.session
         a.give(b"a packet")
-        until(lambda: session.read(b"c.count") == b"1", "a packet does not enter beside the source")
+        until(lambda: session.read(b"c.count") == b"1", "a packet does not enter while the source emits packets")
         made = int(session.read(b"s.count"))
         until(lambda: int(session.read(b"s.count")) > made + 10_000, "the source ends")
         same(b"ab", b.take(), "a packet of the source")
@@ -356,14 +422,17 @@ def endless():
         counts, out = router.ends()
         seconds = time.monotonic() - began
     if seconds > LONGEST_END:
-        raise Wrong(f"beside a source without end the program ends only after {seconds:.1f} s")
+        raise Wrong(f"with an endless source the program ends only after {seconds:.1f} s")
     same((entering(1), leaving(out.sent)), (counts, out), "the counts")
     if out.sent < 9_000:
         raise Wrong(f"of more than 10,000 packets of a source only {out.sent} were sent")
 
 
 def nobody():
-    """Where nobody listens at THERE, and where the system refuses to send, later packets still go, and other links."""
+    """Checks that failed sends stop neither later packets nor other links.
+
+    No socket is open at the peer of one link, and the system refuses to send over another one.
+    """
     a, b, c, d = Link("a"), Link("b", is_open=False), Link("c"), Link("d", there="255.255.255.255:9")
     text = f"{PLAIN} FromDevice(c) -> n :: Counter -> p :: Queue -> ToDevice(d);"
     with Router(text, [a, b, c, d]) as router:
@@ -380,7 +449,7 @@ def nobody():
 
 
 def refused():
-    """Two links of one device, and a port that is taken: a line, a status, and nothing else."""
+    """Checks the message and the status for two links of one device, and for a taken port."""
     a, other = Link("a"), Link("a")
     taken = Link("b")
     taken.here = taken.port
@@ -394,19 +463,23 @@ def refused():
 
 
 def away():
-    """A swap takes the device away while ten times what its feed has room for comes: what is in the feed enters once a swap brings the device back."""
+    """Checks a swap that removes a device while ten times as many packets come as its feed has
+    places.
+
+    After a swap that restores the device, exactly the packets in the feed enter.
+    """
     a, b, count = Link("a"), Link("b"), 10 * PLACES
     with Router(PLAIN, [a, b]) as router:
         is_carried(a, b, range(10))
         router.session.swap("Idle -> q :: Queue(2000) -> ToDevice(b);")
         seconds = gives_all(a, "away", count, 20_000)
-        same(b"0", router.session.read(b"q.length"), "the packets that entered where no device is")
+        same(b"0", router.session.read(b"q.length"), "the packets that entered without a device")
         router.is_idle("with a full feed and no device for it")
         lost = lost_at(a.here)
         router.session.swap("FromDevice(a) -> c :: Counter -> q :: Queue(2000) -> ToDevice(b);")
         until(lambda: int(router.session.read(b"c.count")) >= PLACES, f"the feed did not keep {PLACES} packets")
         came = takes_all(b, "away", count)
-        same((PLACES, b"0"), (came, router.session.read(b"q.drops")), f"what came of {count} packets, and the queue's drops")
+        same((PLACES, b"0"), (came, router.session.read(b"q.drops")), f"how many of {count} packets came, and the queue's drops")
         is_carried(a, b, range(10))
         entered = PLACES + 20
         wanted = Counts(count + 20 - lost, 0, 0, count - lost - PLACES, 0, entered, 0, 0)
@@ -414,7 +487,7 @@ def away():
 
 
 def flooded(link, packet, seconds, sender=None):
-    """Sends as fast as it can, for so long: how many were sent."""
+    """Sends a packet as fast as possible for some seconds, and returns how often it was sent."""
     count, ends = 0, time.monotonic() + seconds
     sender = sender or link.socket
     while time.monotonic() < ends:
@@ -425,13 +498,19 @@ def flooded(link, packet, seconds, sender=None):
 
 
 def slow_text():
-    """A packet that enters is copied four thousand times: some 100 microseconds for a long one, and more."""
+    """Returns a configuration that copies each packet some four thousand times.
+
+    That takes 100 microseconds or more for a long packet.
+    """
     chain = "FromDevice(a) -> c :: Counter" + "".join(f" -> t{k} :: Tee(240); t{k}" for k in range(16)) + " -> q :: Queue(10) -> ToDevice(b); d :: Discard;"
     return chain + "".join(f" t{k} [{n}] -> d;" for k in range(16) for n in range(1, 240))
 
 
 def flood():
-    """Ten times what can be taken, and strangers beside it: sessions are answered all the while, each datagram is in a count, and packets go on after."""
+    """Checks a flood of ten times as many packets as the router can take, with other senders.
+
+    A session is answered during the flood, each datagram is counted, and later packets are carried.
+    """
     a, b, stranger = Link("a"), Link("b"), bound()
     waits, is_over = [], threading.Event()
     with Router(slow_text(), [a, b]) as router:
@@ -458,9 +537,9 @@ def flood():
         lost = lost_at(a.here)
         with_all = sum(known) + strange
         if sum(known) < 10 * before:
-            raise Wrong(f"{sum(known)} packets in 3 seconds are no flood where {before} can be taken")
+            raise Wrong(f"{sum(known)} packets in 3 seconds are no flood, because {before} were taken")
         if len(waits) < FEWEST_READS or max(waits) > LONGEST_WAIT:
-            raise Wrong(f"beside the flood {len(waits)} reads were answered, one after {max(waits, default=0):.3f} s")
+            raise Wrong(f"during the flood {len(waits)} reads were answered, one after {max(waits, default=0):.3f} s")
         b.socket.settimeout(0.2)
         try:
             while True:
@@ -478,12 +557,16 @@ def flood():
 
 
 def telling():
-    """Sixteen links in a ring, a line for each every second: sessions over TCP come and go, the counts are those of the packets, and SIGTERM ends it."""
+    """Checks sixteen links in a ring, with --tell 1 and sessions over TCP.
+
+    The counts of each link are printed every second and match the packets. SIGTERM ends the
+    program.
+    """
     links = [Link(f"d{n}") for n in range(16)]
     port = free_port()
     text = "".join(f"FromDevice(d{n}) -> c{n} :: Counter -> q{n} :: Queue -> ToDevice(d{(n + 1) % 16}); " for n in range(16))
     with tempfile.TemporaryFile() as file, Router(text, links, "--tell", "1", port=port, said=file) as router:
-        # Up to the last line of the last link.
+        # The lines up to the last complete set of sixteen.
         said = lambda: re.match(rb"(?:(?:.*\n){16})*", os.pread(file.fileno(), 1 << 20, 0))[0]
         began = time.monotonic()
         for n in range(16):
@@ -499,17 +582,20 @@ def telling():
         same(-signal.SIGTERM, router.process.wait(SECONDS), "the status after SIGTERM")
         seconds, tellings = time.monotonic() - began, tellings_of(said(), links)
     if not seconds - 2 <= len(tellings) <= seconds + 1:
-        raise Wrong(f"in {seconds:.1f} s the counts were told {len(tellings)} times")
+        raise Wrong(f"in {seconds:.1f} s the counts were printed {len(tellings)} times")
     for before, after in zip(tellings, tellings[1:]):
-        if any(new < old for one, other in zip(before, after) for old, new in zip(one, other)):
+        if any(new < old for olds, news in zip(before, after) for old, new in zip(olds, news)):
             raise Wrong(f"a count fell from {before} to {after}")
 
 
 def unread():
-    """Lines that nobody reads, into a pipe that is soon full, keep no packet and no session waiting."""
+    """Checks that packets and sessions do not wait for lines of --tell that no process reads.
+
+    The lines go into a pipe that is soon full.
+    """
     a, b = Link("a"), Link("b")
     read, write = os.pipe()
-    # F_SETPIPE_SZ: as little room as a pipe may have. All but 200 bytes of it is taken.
+    # 1031 is F_SETPIPE_SZ: a pipe with the minimum size. All but 200 bytes of it are used.
     os.write(write, b"x" * (fcntl.fcntl(write, 1031, 4096) - 200))
     with Router(PLAIN, [a, b], "--tell", "1", port=free_port(), said=write) as router:
         os.close(write)
@@ -532,11 +618,14 @@ def main(words):
         return 1
     for name in words or CASES:
         try:
-            CASES[name]()
+            try:
+                CASES[name]()
+            except PortTaken:
+                CASES[name]()
         except (Wrong, OSError, AttributeError, ValueError, StopIteration, subprocess.TimeoutExpired) as error:
             print(f"udp_links.py: {name}: {error}", file=sys.stderr)
             return 1
-    print(f"links over UDP: {', '.join(words or CASES)}: each packet came out or is in a count")
+    print(f"links over UDP: {', '.join(words or CASES)}: each packet came out or was counted")
     return 0
 
 

@@ -1,20 +1,26 @@
 #!/usr/bin/env bash
-# Instructions for a call of one seat at a desk that keeps a book, and at a live one, by callgrind: a Round as a driver makes it, in a router without a task; a read
-# and a write of a Counter as a session makes them, with the making of the call. Each is the difference of two runs. Then seconds and memory of a million Rounds, less
-# those of a run without one. Needs rt, GNU time and valgrind. It is no part of the gate; nothing else should run beside it.
+# Counts the instructions of a call of one seat, at a desk with a book and at a live one. The calls
+# are a Round as a driver makes it, in a router without a task, and a read and a write of a Counter.
+# The last two are made as a session makes them, with the making of the call. Each count is the
+# difference of two runs. Then measures the seconds and the memory of a million Rounds, less those
+# of a run without Rounds.
+#
+# Needs rt, GNU time and valgrind. Nothing else should run in parallel. This is not a part of the
+# gate.
 set -eu
 . "$(dirname "$(readlink -f "$0")")/../lib/counting.sh"
 needs valgrind /usr/bin/time
 drive_built
 
-# answered DESK CALL: $counted is the instructions of one more.
+# answered DESK CALL: counts the instructions of one call into $counted.
 answered() {
     each 10000 "$drive" desk "$1" "$2"
     [ "$(cat "$work/out")" = 20000 ] || fail "not every $2 was answered"
 }
 
-# used DESK COUNT: seconds and kilobytes of so many Rounds.
+# used DESK COUNT: prints the seconds and the kilobytes of a run with this number of Rounds.
 used() {
+    # shellcheck disable=SC2069
     /usr/bin/time -f '%e %M' "$drive" desk "$1" round "$2" 2>&1 > "$work/out"
 }
 

@@ -1,8 +1,14 @@
 #!/usr/bin/env bash
-# Calls a second through the desk: rounds of a gateway (some 900 instructions each) by 1, 2, 4 and 8 drivers of click_prog, each in a thread of its own, beside a
-# router alone (drive rounds) and beside plain Rust with the same history behind a mutex (peer). Each is the best of several runs, and the beginning
-# of a run is taken away by a run without rounds. A run is long, and the peer's threads begin together: else the threads that begin first are done before the last
-# begin, and a mutex that nobody waits for is measured. Needs rt, rustc, and the program, which ./test.sh builds. It is no part of the gate; nothing else should run beside it.
+# Measures calls per second through the desk: rounds of a gateway (some 900 instructions each) by 1,
+# 2, 4 and 8 drivers of click_prog, each in its own thread. They are compared with a router alone
+# (`rounds` of bench/drive), and with plain Rust that keeps the same history behind a mutex (peer).
+#
+# Each figure is the best of several runs, less the time of a run without rounds. Runs are long, and
+# the threads of the peer start together. Otherwise the first threads would end before the last ones
+# start, and an uncontended mutex would be measured.
+#
+# Needs rt, rustc, and the program, which ./test.sh builds. Nothing else should run in parallel.
+# This is not a part of the gate.
 set -eu
 here="$(cd "$(dirname "$0")" && pwd)"
 work="$(mktemp -d)"
@@ -13,6 +19,7 @@ drive=${DRIVE:-$("$here/../drive/build.sh" "$work/built")}
 calls=${CALLS_IN_ALL:-640000}
 
 # The gateway of bench/engine.
+# shellcheck disable=SC2046
 printf -v bytes '%s' '\<4500 0040 0001 0000 4011 66a9 0a000001 0a010002 1000 0407 002c 0000' "$(printf ' %s' $(yes 07 | head -36))" '>'
 text="InfiniteSource(\"$bytes\", -1, 1) -> CheckIPHeader -> GetIPAddress(16) -> StaticIPLookup(0.0.0.0/0 0, 10.0.0.0/8 0, 10.1.0.0/16 10.9.9.9 0, 192.168.0.0/16 0)
     -> DecIPTTL -> EtherEncap(0x0800, 1:1:1:1:1:1, 2:2:2:2:2:2) -> Queue(1000) -> Unqueue -> Counter -> Discard;"
@@ -21,7 +28,7 @@ alone() { "$drive" rounds "$1" <<< "$text"; }
 desk() { "$program" -e "$text" -w "$2" --rounds "$1" < /dev/null; }
 mutex() { "$work/peer" "$2" "$1"; }
 
-# seconds COMMAND..: the least time of five runs.
+# seconds COMMAND..: prints the shortest time of five runs.
 seconds() {
     local best=1000 took began
     for _ in 1 2 3 4 5; do
@@ -33,7 +40,7 @@ seconds() {
     echo "$best"
 }
 
-# rate NAME DRIVERS: thousands of calls a second.
+# rate NAME DRIVERS: prints thousands of calls per second. NAME is one of the three functions above.
 rate() {
     local many none
     many=$(seconds "$1" $((calls / $2)) "$2")

@@ -1,8 +1,11 @@
 #!/usr/bin/env bash
-# Counts the instructions of a packet (or a round) through the engine, in Rattle and in plain Rust (peer; fused for the gateway), and compares what both print. Then
-# those of a packet beside 4,000 further elements, and those of making a plant, at three sizes. Needs rt, rustc and valgrind. It is no part of the gate.
+# Counts the instructions of a packet (or a round) through the engine, in Rattle and in plain Rust
+# (peer, and fused for the gateway), and compares their outputs.
 #
-#   bench/engine/measure.sh [cases|far|plant]..    these parts; all of them without a word
+#   bench/engine/measure.sh [cases|far|plant]..    measures these parts, or all
+#
+# `far` counts packets with and without 4,000 further elements. `plant` counts the making of plants
+# of four sizes. Needs rt, rustc and valgrind. This is not a part of the gate.
 set -eu
 here="$(cd "$(dirname "$0")" && pwd)"
 . "$here/../lib/counting.sh"
@@ -14,23 +17,23 @@ cases() {
     local named case goal
     peer peer "$here/peer/main.rs"
     peer fused "$here/fused/main.rs"
-    table 'Instructions for a packet, beside plain Rust'
+    table 'Instructions for a packet, compared with plain Rust'
     each $rounds "$drive" engine forward
     ours
     each $rounds "$work/fused"
-    beside 'forward, beside one loop fused by hand' 2.0
+    beside 'forward, to one loop fused by hand' 2.0
     for named in forward=1.0 chain=0.75 tee=1.0 sched=1.0 classifier=0.75 lookup=1.0 lookup-last=1.0; do
         case=${named%=*} goal=${named#*=}
         each $rounds "$drive" engine "$case"
         ours
         each $rounds "$work/peer" "$case"
-        beside "$case, beside boxed elements" "$goal"
+        beside "$case, to boxed elements" "$goal"
     done
 }
 
 far() {
     local case
-    table 'Instructions for a packet, beside 4,000 further elements' with without
+    table 'Instructions for a packet, with and without 4,000 further elements' with without
     for case in enter pull round; do
         each $rounds "$drive" engine "far-$case"
         ours
@@ -41,7 +44,7 @@ far() {
 
 plant() {
     local count half='' without
-    table 'Instructions of making a plant, beside half as many elements' these half
+    table 'Instructions of making a plant, compared with half as many elements' these half
     for count in 512 1024 2048 4096; do
         instructions "$drive" engine net "$count"
         without=$counted

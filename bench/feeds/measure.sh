@@ -1,6 +1,9 @@
 #!/usr/bin/env bash
-# Instructions for a packet of 64 bytes by a feed, by callgrind: through the ring alone (put and draw) beside the same in plain Rust (peer), and 32 packets into a router by
-# one poll beside 32 arrivals, each with the making of its packets. Each is the difference of two runs. Needs rt, rustc and valgrind.
+# Counts the instructions of packets of 64 bytes through a feed. Put and draw at the ring are
+# compared with plain Rust (peer), and one poll of 32 packets with 32 arrivals. Polls and arrivals
+# include the making of the packets. Each count is the difference of two runs.
+#
+# Needs rt, rustc and valgrind. This is not a part of the gate.
 set -eu
 here="$(cd "$(dirname "$0")" && pwd)"
 . "$here/../lib/counting.sh"
@@ -8,7 +11,8 @@ needs rustc valgrind
 drive_built
 peer peer "$here/peer/main.rs"
 
-# answered ANSWER TIMES COMMAND..: $counted is the instructions of one more.
+# answered ANSWER TIMES COMMAND..: counts the instructions of one repetition into $counted, and
+# checks the output.
 answered() {
     local answer=$1
     shift
@@ -16,7 +20,7 @@ answered() {
     [ "$(cat "$work/out")" = "$answer" ] || fail "not every packet came through: $*"
 }
 
-table 'Instructions for a packet of 64 bytes through a ring, beside plain Rust; of 32 packets into a router, beside 32 arrivals'
+table 'Instructions for a packet of 64 bytes through a ring, compared with plain Rust; for 32 packets into a router, with 32 arrivals'
 answered true 10000 "$drive" feeds ring
 ours
 answered true 10000 "$work/peer"

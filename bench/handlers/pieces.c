@@ -1,4 +1,4 @@
-// Makes each read of the program give at most PIECE bytes (LD_PRELOAD).
+// Limits each read of a program to PIECE bytes (LD_PRELOAD).
 #define _GNU_SOURCE
 #include <dlfcn.h>
 #include <stdlib.h>

@@ -1,4 +1,4 @@
-//! Reads a Counter's count over and over.
+//! Reads a Counter's count repeatedly.
 
 mod router;
 

@@ -1,4 +1,5 @@
-// Counts the requests of the program for memory, and writes their number to descriptor 9 where it ends (LD_PRELOAD).
+// Counts the allocations of a program, and writes their number to descriptor 9 when it ends
+// (LD_PRELOAD).
 #define _GNU_SOURCE
 #include <dlfcn.h>
 #include <stdio.h>
@@ -7,7 +8,7 @@
 
 static long count;
 
-// Several threads may ask at once.
+// Several threads may allocate at the same time.
 static void note(void) { __atomic_add_fetch(&count, 1, __ATOMIC_SEQ_CST); }
 
 void *malloc(size_t size)
@@ -42,7 +43,7 @@ int posix_memalign(void **to, size_t align, size_t size)
     return real(to, align, size);
 }
 
-// The program ends so, and destructors are not called.
+// The program ends by _exit, so destructors are not called.
 void _exit(int status)
 {
     void (*real)(int) = (void (*)(int))dlsym(RTLD_NEXT, "_exit");

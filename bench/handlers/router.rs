@@ -1,4 +1,5 @@
-//! A router's handlers in plain Rust, as its own authors would write them: names and rows in hash maps, boxed closures, replies that hold a value or a packet.
+//! A router's handlers in plain Rust, with names and rows in hash maps, boxed closures, and replies
+//! that own a value or a packet.
 
 use std::collections::HashMap;
 

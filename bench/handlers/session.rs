@@ -1,4 +1,5 @@
-//! A control session over standard input and output, for READ and QUIT: as long a buffer as ours, and one write for each reply.
+//! A control session over standard input and output, with the commands READ and QUIT. Its buffer is
+//! as long as that of click_prog, and it makes one write for each reply.
 
 mod router;
 
@@ -32,7 +33,7 @@ fn reply_text(handler: &[u8], reply: &Reply) -> Vec<u8> {
     text
 }
 
-/// Answers one line; whether the session goes on.
+/// Answers one line, and returns whether the session goes on.
 fn answer(router: &mut Router, line: &[u8], output: &mut impl Write) -> io::Result<bool> {
     let is_blank = |byte: &u8| *byte == b' ' || *byte == b'\t';
     let mut words = line.split(is_blank).filter(|word| !word.is_empty());
@@ -64,7 +65,7 @@ fn answer(router: &mut Router, line: &[u8], output: &mut impl Write) -> io::Resu
 fn main() -> io::Result<()> {
     let mut router = Router::open(3);
     let mut input = io::stdin().lock();
-    // Standard output of std holds lines back: a file does not.
+    // Standard output of std buffers lines, and a file does not.
     let mut output = std::fs::OpenOptions::new().write(true).open("/dev/stdout")?;
     output.write_all(b"Click::ControlSocket/1.3\r\n")?;
     let mut buffer: Vec<u8> = Vec::new();

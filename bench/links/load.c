@@ -1,11 +1,14 @@
-// Loads what joins two links over UDP: HERE and OTHER_HERE are its ports, THERE and OTHER_THERE ours.
+// Sends packets through a forwarder between two UDP links, and measures it. HERE and OTHER_HERE are
+// the ports of the forwarder, THERE and OTHER_THERE those of this program.
 //
 //   load HERE THERE OTHER_HERE OTHER_THERE rate SIZE SECONDS WINDOW
-//       packets a second that come out, with so many on their way at once; how many were lost, and how many came out in all
+//       prints the packets per second that come out with WINDOW packets in transit, how many were
+//       lost, and how many came out in all
 //   load HERE THERE OTHER_HERE OTHER_THERE trip SIZE COUNT
-//       microseconds to the other side and back, of one packet each millisecond: the median, and of 100 the 99th
+//       prints the microseconds of a round trip, with one packet per millisecond: the median and
+//       the 99th percentile
 //
-// It ends with 1 where a packet comes that it did not send, or most are lost.
+// The exit status is 1 if a packet comes that was not sent, or most packets are lost.
 #define _GNU_SOURCE
 #include <arpa/inet.h>
 #include <stdio.h>
@@ -26,7 +29,7 @@ static void wrong(const char *what) {
     exit(1);
 }
 
-// A socket of our port whose peer is the other one; it waits for a packet a fifth of a second.
+// Returns a socket with this port and this peer. A read waits at most a fifth of a second.
 static int joined(int ours, int theirs) {
     struct sockaddr_in here = at(ours), there = at(theirs);
     struct timeval wait = {.tv_usec = 200000};
@@ -47,7 +50,7 @@ static unsigned char bytes[AT_ONCE][MOST_BYTES];
 static struct iovec pieces[AT_ONCE];
 static struct mmsghdr packets[AT_ONCE];
 
-// Sends up to so many packets, with their numbers from `next` on; how many were sent.
+// Sends up to `count` packets, with numbers from `next` on, and returns how many were sent.
 static int give(int to, size_t size, unsigned long next, int count) {
     for (int k = 0; k < count; k++) {
         unsigned long number = next + k;
@@ -58,8 +61,9 @@ static int give(int to, size_t size, unsigned long next, int count) {
     return sent < 0 ? 0 : sent;
 }
 
-// Takes what is there, at least one packet, and says how many there are; none where none comes in time. Each has a number that is less than `next` and, since
-// order is kept, no less than `*least`.
+// Receives the packets that are there, and waits for the first one. Returns their number, or 0 if
+// none comes in time. Each number has to be less than `next` and, because the order is kept, at
+// least `*least`.
 static int take(int from, size_t size, unsigned long next, unsigned long *least) {
     for (int k = 0; k < AT_ONCE; k++) pieces[k].iov_len = MOST_BYTES;
     int came = recvmmsg(from, packets, AT_ONCE, MSG_WAITFORONE, NULL);
@@ -80,12 +84,12 @@ static void rate(int one, int other, size_t size, double seconds, int window) {
         // The first fifth of a second is not counted.
         if (!counted && at - began > 0.2) counted = at, before = came;
         if (counted && at - counted > seconds) break;
-        // What is on its way: all between the last that came and the last that was sent.
+        // The packets in transit are those between the last that came and the last that was sent.
         int room = window - (int)(next - least);
         if (room >= AT_ONCE / 2) next += give(one, size, next, room < AT_ONCE ? room : AT_ONCE);
         int n = take(other, size, next, &least);
         came += n;
-        if (n == 0) least = next; // None for a fifth of a second: all that was on its way is lost.
+        if (n == 0) least = next; // After a fifth of a second, all packets in transit are lost.
     }
     if (came < next / 2) wrong("most packets are lost");
     printf("%.0f %lu %lu\n", (came - before) / (now() - counted), least - came, came);

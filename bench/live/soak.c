@@ -1,5 +1,6 @@
-// Eight clients of a router that stays: each connects, makes so many calls, one after another, leaves and comes again; one of them swaps between two
-// configurations. It says every second how many calls were answered, and ends with 1 at the first answer that is not good.
+// Runs eight clients of a live router. Each of them repeatedly connects, makes up to 10,000 calls
+// one after another, and leaves. One of them makes swaps between two configurations. At the end
+// prints how many calls were answered. The exit status is 1 after the first wrong answer.
 //
 //   soak PORT CALLS_OF_EACH TEXT OTHER_TEXT
 #include <arpa/inet.h>
@@ -23,14 +24,15 @@ static void wrong(const char *what) {
     exit(1);
 }
 
-// Reads until the bytes end with a line end, a value of a read with its line before it.
+// Reads a reply and checks its beginning. If it has a value, also reads the line with its length,
+// and the value.
 static void reply(FILE *peer, const char *wanted, int has_value) {
     char line[200];
     if (!fgets(line, sizeof line, peer) || strncmp(line, wanted, strlen(wanted))) wrong(line);
     if (!has_value) return;
     if (!fgets(line, sizeof line, peer) || strncmp(line, "DATA ", 5)) wrong(line);
     for (long left = atol(line + 5); left > 0; left--)
-        if (fgetc(peer) == EOF) wrong("a value breaks off");
+        if (fgetc(peer) == EOF) wrong("a value is incomplete");
 }
 
 static void ask(int socket, FILE *peer, const char *command, int has_value) {

@@ -1,7 +1,10 @@
 #!/usr/bin/env bash
-# A router that stays for a long time: eight clients in C make CALLS calls in all (1,000,000 if not given) over TCP, with swaps among them, beside a driver that
-# always finds work; every ten seconds its memory, and at the end how many Rounds the driver has made by then, by the packets that they gave. PROGRAM is
-# click_prog, if not the one that is built here. Needs cc. It is no part of the gate.
+# Runs a live router for a long time and prints its memory every ten seconds. Eight clients in C
+# make CALLS calls in all over TCP (1,000,000 by default), with swaps among them, while a driver
+# always finds work. At the end prints the number of Rounds that the driver has made, which is the
+# number of packets that they emitted.
+#
+# PROGRAM names another click_prog than the proved one. Needs cc. This is not a part of the gate.
 #
 #   bench/live/soak.sh [CALLS]
 set -eu
@@ -17,8 +20,8 @@ port=$((20000 + RANDOM % 20000))
 "$program" -e "$text" -p "$port" -n 8 -w 1 --live < /dev/null &
 router=$!
 sleep 1
-# What it has, and how much of it is its own and not of the program's file.
-memory() { awk '/^VmRSS:/ { all = $2 } /^RssAnon:/ { own = $2 } END { print all " kB, of its own " own " kB" }' "/proc/$router/status"; }
+# memory: prints the memory of the router, and the part of it that is not of the program's file.
+memory() { awk '/^VmRSS:/ { all = $2 } /^RssAnon:/ { own = $2 } END { print all " kB, without the program file " own " kB" }' "/proc/$router/status"; }
 started=$SECONDS
 "$work/soak" "$port" $((calls / 8)) "$text" "$other" > "$work/said" &
 clients=$!
@@ -32,7 +35,7 @@ echo "$((SECONDS - started)) s, at the end: $(memory)"
 printf 'READ c.count\nQUIT\n' > "$work/last"
 exec 3<> "/dev/tcp/127.0.0.1/$port"
 cat "$work/last" >&3
-# The greeting, the line of the read, and how many bytes its value has.
+# Reads the greeting, the first line of the reply, and the length of the value.
 for _ in 1 2 3; do read -r line <&3; done
 echo "Rounds made by the driver, a packet each: $(head -c "$(tr -cd 0-9 <<< "$line")" <&3)"
 kill "$router"

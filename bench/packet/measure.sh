@@ -1,7 +1,7 @@
 #!/usr/bin/env bash
-# Counts the instructions of one packet through of (or, in place, copy_from), strip, prepend,
-# header_good and set_ttl, in Rattle and in plain Rust over an array.
-# Needs rt, rustc and valgrind. It is no part of the gate.
+# Counts the instructions of one packet through `of` (or, in place, `copy_from`), `strip`,
+# `prepend`, `header_good` and `set_ttl`, in Rattle and in plain Rust over an array. Needs rt, rustc
+# and valgrind. This is not a part of the gate.
 set -eu
 here="$(cd "$(dirname "$0")" && pwd)"
 work="$(mktemp -d)"
@@ -10,12 +10,14 @@ trap 'rm -rf "$work"' EXIT
 mkdir "$work/crates"
 cp -r "$here/../../crates/click_packet" "$work/crates/click_packet"
 mkdir -p "$work/crates/measure/src"
-cp "$here/main.rattle" "$work/crates/measure/src/main.rt" # the gate takes no .rt file outside crates/
+cp "$here/main.rattle" "$work/crates/measure/src/main.rt" # the gate allows no .rt file outside crates/
 printf 'click_packet: arrayvec thiserror\nmeasure: click_packet\n' > "$work/crates.txt"
 cd "$work/crates/measure"
 printf '64\n1\n0\n' | rt run > "$work/log" 2>&1 || { tail -20 "$work/log"; exit 1; }
 rustc -C opt-level=2 -o "$work/plain" "$here/plain.rs"
 
+# instructions PROGRAM SIZE IN_PLACE ROUNDS: prints the instructions of a run, and checks its
+# output.
 instructions() { # program, size, in place, rounds
     printf '%s\n%s\n%s\n' "$2" "$4" "$3" | valgrind --tool=callgrind --callgrind-out-file=/dev/null "$1" 2>&1 >"$work/good" |
         sed -n 's/.*Collected : //p'

@@ -1,4 +1,4 @@
-//! The work of main.rattle in plain Rust, over an array of 1,600 bytes.
+//! The work of main.rattle in plain Rust, on an array of 1,600 bytes.
 
 use std::io::{self, BufRead};
 

@@ -1,4 +1,7 @@
-"""make.py COUNT: writes a capture of so many packets of 60 bytes, each for the gateway of examples/pcap, to standard output. COUNT is a number of thousands."""
+"""Writes a capture of packets of 60 bytes for the gateway of examples/pcap to standard output.
+
+    make.py THOUSANDS    writes this many thousand packets
+"""
 
 import struct
 import sys

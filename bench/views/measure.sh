@@ -1,13 +1,15 @@
 #!/usr/bin/env bash
-# Checks of a handler a second, while a seat swaps all the while: by eight views on four threads, beside CheckRead calls at the desk by four seats on four threads. Each is the best of three
-# runs, less a run of one check. Needs rt. It is no part of the gate; nothing else should run beside it.
+# Measures checks of a handler per second while a seat makes swaps: by eight views on four threads,
+# and by CheckRead calls of four seats on four threads. Each figure is the best of three runs, less
+# a run of one check. Needs rt. Nothing else should run in parallel. This is not a part of the gate.
 set -eu
 here="$(cd "$(dirname "$0")" && pwd)"
 work="$(mktemp -d)"
 trap 'rm -rf "$work"' EXIT
 drive=${DRIVE:-$("$here/../drive/build.sh" "$work/built")}
 
-# rate CASE TIMES IN_ALL: thousands of checks a second, all of which were answered with yes.
+# rate CASE TIMES IN_ALL: prints thousands of checks per second, and checks that all were answered
+# with yes.
 rate() {
     local best=1000 none=1000 took began
     for _ in 1 2 3; do
@@ -26,4 +28,4 @@ rate() {
 
 views=$(rate views 1000000 8000000) swaps_views=$(cut -d ' ' -f 2 "$work/best")
 calls=$(rate calls 50000 200000) swaps_calls=$(cut -d ' ' -f 2 "$work/best")
-echo "thousands of checks a second: by views $views (beside $swaps_views swaps), by calls $calls (beside $swaps_calls swaps), $(awk "BEGIN { printf \"%.1f\", $views / $calls }")"
+echo "thousands of checks a second: by views $views (during $swaps_views swaps), by calls $calls (during $swaps_calls swaps), $(awk "BEGIN { printf \"%.1f\", $views / $calls }")"

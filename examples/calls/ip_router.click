@@ -1,5 +1,6 @@
-// The IP router of the Click paper for two networks, as far as the thirty classes go. What would be answered by ICMP (a redirect, an expired or a long packet) is
-// counted; each network has one next hop, whose Ethernet address is known. There is no ARP, no IP option and no fragment.
+// The IP router of the Click paper for two networks, with the thirty classes. Packets that an ICMP
+// message would answer (a redirect, an expired or a long packet) are counted. Each network has one
+// next hop, whose Ethernet address is known. There is no ARP, no IP option and no fragment.
 elementclass In { $colour |
     input -> k :: Classifier(12/0800, -) -> Paint($colour) -> Strip(14) -> CheckIPHeader(10.255.255.255 192.168.1.255) -> GetIPAddress(16) -> output;
     k [1] -> other :: Counter -> Discard;

@@ -1,4 +1,5 @@
-// The gateway for which TCP to port 8000 is dropped, and counted: 9/06 is TCP, 22/1f40 the port of a packet whose header has 20 bytes (0/45).
+// The gateway without TCP to port 8000, which is dropped and counted. 9/06 is TCP, and 22/1f40 is
+// the port of a packet whose header has 20 bytes (0/45).
 FromDevice(eth0) -> good :: CheckIPHeader -> k :: Classifier(0/45 9/06 22/1f40, -);
 FromDevice(eth1) -> good;
 k -> dropped :: Counter -> Discard;

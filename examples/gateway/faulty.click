@@ -1,2 +1,2 @@
-// What is given to q1 has nowhere to go, so that this is refused.
+// No output of q1 is connected, so this configuration is refused.
 FromDevice(eth0) -> q1 :: Queue(1000);

@@ -1,29 +1,37 @@
 #!/usr/bin/env bash
-# Two networks with the router between them: Linux's own TCP/IP in two network namespaces, a TUN device in each, socat between the device and the router's
-# link, and a control session that swaps while packets pass. README.md says what is shown; each of it is checked. All of it happens in namespaces of its own,
-# so that nothing is left behind, wherever it ends. PROGRAM names another program than the one that is built here.
+# Checks the router between two Linux networks: pings, a page that is fetched over a swap, a refused
+# swap, and a port that a swap closes. If there are no namespaces or no TUN device, prints so and
+# checks nothing.
+#
+# Each network is a network namespace with a TUN device, and socat connects the device with a link
+# of the router. A control session makes the swaps while packets pass. README.md describes the
+# steps. Everything runs in new namespaces, so nothing is left behind. PROGRAM names another program
+# than the proved one.
 #
 #   examples/gateway/run.sh
 set -eu
 self=$(readlink -f "$0")
 here=$(dirname "$self")
 most_seconds=80
-# Inside its namespaces, where it is the first process: what it writes is gone with them, too.
+# In the new namespaces this script is the first process. Its files are on a tmpfs, which ends with
+# them.
 if [ "${1:-}" = inside ] && [ $$ = 1 ]; then
     mount -t tmpfs tmpfs /run
     export TMPDIR=/run
 elif [ $# -gt 0 ]; then
-    echo 'run.sh takes no words' >&2
+    echo 'run.sh takes no arguments' >&2
     exit 2
 fi
 . "$here/../../tools/lib/checking.sh"
 
+# left_out WHY: prints what is missing and exits with status 0.
 left_out() {
     echo "left out: $1"
     exit 0
 }
 
-# Outside: what is needed is there, or it is said what is not.
+# Outside of the namespaces: checks that everything needed is installed, and starts the script in
+# new namespaces.
 if [ $# = 0 ]; then
     is_built "$program"
     for needed in unshare nsenter ip socat ping curl python3; do
@@ -39,7 +47,8 @@ if [ $# = 0 ]; then
     exit $status
 fi
 
-# until_so WHAT COMMAND..: tries it over and over, for some seconds.
+# until_so WHAT COMMAND..: repeats the command until it succeeds, and fails with WHAT after 15
+# seconds.
 until_so() {
     local what=$1 ends=$((SECONDS + 15))
     shift
@@ -49,24 +58,26 @@ until_so() {
     done
 }
 
-# in_left, in_right COMMAND..: runs it in that network.
+# in_left, in_right COMMAND..: run the command in that network.
 in_left() { nsenter --net=/run/netns/left "$@"; }
 in_right() { nsenter --net=/run/netns/right "$@"; }
 
-# network NAME ADDRESS OTHERS HERE THERE: a network of one host, whose packets to the others go as datagrams from the port THERE to the router's port HERE.
+# network NAME ADDRESS OTHERS HERE THERE: makes a network with one host. Its packets to the
+# addresses OTHERS are sent as datagrams from the port THERE to the router's port HERE.
 network() {
     ip netns add "$1"
     socat "TUN,tun-name=$1,iff-no-pi" "UDP4-DATAGRAM:127.0.0.1:$4,bind=127.0.0.1:$5" &
     until_so "socat makes no TUN device for $1" ip link show "$1"
     ip link set "$1" netns "$1"
-    # No IPv6 of its own accord.
+    # The kernel adds no IPv6 address.
     ip -n "$1" link set "$1" addrgenmode none
     ip -n "$1" address add "$2" dev "$1"
     ip -n "$1" link set "$1" up
     ip -n "$1" route add "$3" dev "$1"
 }
 
-# The control session: `said` is the reply's last line, `value` what was read.
+# reply: reads a reply of the control session. Leaves its last line in $said, and the value of a
+# read in $value.
 reply() {
     local length
     IFS= read -r -t 10 said <&3 || fail 'the control session ended, or does not answer'
@@ -80,14 +91,17 @@ reply() {
     ???-*) reply ;;
     esac
 }
+# asks COMMAND: sends a command and reads its reply.
 asks() {
     printf '%s\n' "$1" >&3
     reply
 }
+# reads HANDLER: reads a handler, and checks that it can be read.
 reads() {
     asks "READ $1"
     same "200 Read handler '$1' OK" "$said" "READ $1"
 }
+# swaps NAME: makes a swap to NAME.click.
 swaps() {
     local text
     text=$(cat "$here/$1.click")
@@ -95,7 +109,7 @@ swaps() {
     reply
 }
 
-# pings HOW_MANY WHAT: each is answered, by a packet whose time to live is one less than the 64 that it began with.
+# pings COUNT WHAT: checks that each ping is answered, by a packet whose time to live is 63.
 pings() {
     ran in_left ping -n -c "$1" -i 0.01 -W 2 10.2.0.2
     same_status 0 "$status" "$2: pings"
@@ -108,7 +122,7 @@ has_bytes() { [ "$(size_of "$1")" -ge "$2" ]; }
 listens() { in_right grep -q ':1F40 00000000:0000 0A' /proc/net/tcp; }
 is_ready() { grep -q ':1E61 00000000:0000 0A' /proc/net/tcp && grep -q ':1389 ' /proc/net/udp && grep -q ':138B ' /proc/net/udp; }
 
-# tells PATTERN: the last line of each link is such a one.
+# `tells PATTERN`: succeeds if the last line of each link matches the pattern.
 tells() {
     local device
     for device in eth0 eth1; do
@@ -129,7 +143,7 @@ network right 10.2.0.2/16 10.1.0.0/16 5003 5004
 mkdir "$work/pages"
 head -c 10485760 /dev/urandom > "$work/pages/page"
 in_right python3 -m http.server 8000 --bind 10.2.0.2 --directory "$work/pages" > "$work/served" 2>&1 &
-until_so 'nobody serves the page' listens
+until_so 'the page is not served' listens
 
 pings 100 'the gateway'
 echo 'ping: 100 of 100 answered, each with a time to live of 63'
@@ -166,7 +180,7 @@ ran fetches --connect-timeout 3 -o "$work/came"
 same_status 28 "$status" 'curl at a closed port (28: the time is over)'
 reads dropped.count
 if [ "$value" -lt 2 ]; then fail "TCP packets that were dropped: $value"; fi
-pings 20 'beside a closed port'
+pings 20 'with a closed port'
 echo "port 8000 closed: curl gets no connection ($value packets dropped), 20 of 20 pings are answered"
 
 swaps gateway
@@ -176,7 +190,7 @@ same_status 0 "$status" 'curl at the port that is open again'
 same_bytes "$work/pages/page" "$work/came" 'the page that was fetched again'
 echo 'port 8000 open again: the whole page'
 
-# What dies on its way is dropped without a word.
+# A packet whose time to live is over is dropped silently.
 ran in_left ping -n -t 1 -c 5 -i 0.01 -W 1 10.2.0.2
 same_status 1 "$status" 'ping with a time to live of 1'
 same '' "$(grep -i 'exceeded\|bytes from' "$work/out")" 'what answers a time to live of 1'
@@ -184,7 +198,7 @@ echo 'ping with a time to live of 1: no answer, nor one that says why'
 
 clean='received [1-9][0-9]*, from elsewhere 0, too long 0, no room [0-9]*, no memory 0, entered [1-9][0-9]*, sent [1-9][0-9]*, failed 0'
 until_so "no such line of each link: $clean" tells "$clean"
-same 0 "$(grep -cv '^link eth[01]: ' "$work/said")" 'lines of the router that are of no link'
+same 0 "$(grep -cv '^link eth[01]: ' "$work/said")" 'lines of the router that are not counts of a link'
 tail -n 2 "$work/said"
 asks QUIT
 same '200 Goodbye!' "$said" 'QUIT'

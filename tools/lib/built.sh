@@ -1,12 +1,19 @@
-# Sourced by run.sh and test.sh: whether crates/click_prog/out/click_prog is the program of these sources, proved. A stamp beside it
-# says what it was built from: the toolchain, the files crates.txt and HANDLES, and src/, specs/ and proofs/ of each crate that it stands on; and what
-# was built.
+# shellcheck shell=bash
+
+# Finds out whether crates/click_prog/out/click_prog is the proved program of the present sources.
+#
+# A stamp next to the program has two checksums: one of its sources and one of the program. The
+# sources are the version of the toolchain, the files crates.txt and HANDLES, and the folders src/,
+# specs/ and proofs/ of click_prog and of each crate that it stands on.
+#
+# Sourced by run.sh, tools/lib/proofs.sh and bench/drive/build.sh.
 
 top=$(dirname "$(dirname "$(dirname "$(readlink -f "${BASH_SOURCE[0]}")")")")
 built=$top/crates/click_prog/out/click_prog
 stamp=$built.built-from
 
-# crates_below NAME: the crate and those of this repository that it stands on, by crates.txt, one a line.
+# crates_below NAME: prints the crate and the crates of this repository that it stands on, by
+# crates.txt, one per line.
 crates_below() {
     awk -v first="$1" '
         { sub(/#.*/, "") }
@@ -21,7 +28,15 @@ crates_below() {
         }' "$top/crates.txt" | LC_ALL=C sort
 }
 
-# One sum over all that the program is built from. It answers 1 where one of these cannot be read.
+# jobs_at_once: prints the number of checks to run in parallel: one for each processor, but no more
+# than there are 4 GB of available memory for. By default rt reserves several times as much memory
+# for a check.
+jobs_at_once() {
+    awk -v most="$(nproc)" '/^MemAvailable:/ { room = int($2 / 4000000); print room < 1 ? 1 : room < most ? room : most }' /proc/meminfo
+}
+
+# sum_of_sources: prints one checksum of everything that the program is built from. Returns 1 if a
+# part of it cannot be read.
 sum_of_sources() (
     set -o pipefail
     cd "$top" || return 1
@@ -39,14 +54,15 @@ sum_of_sources() (
     } | sha256sum | cut -d ' ' -f 1
 )
 
+# sum_of_program: prints the checksum of the program.
 sum_of_program() { sha256sum < "$built" | cut -d ' ' -f 1; }
 
-# Whether the program was built from sources of this sum.
+# is_built_from SUM: succeeds if the program was built from the sources with this checksum.
 is_built_from() {
     [ -x "$built" ] && [ -f "$stamp" ] && [ "$(cat "$stamp")" = "$1 $(sum_of_program)" ]
 }
 
-# Says beside the program that it was built from sources of this sum.
+# write_stamp SUM: records that the program was built from the sources with this checksum.
 write_stamp() {
     local new=$stamp.$$
     printf '%s %s\n' "$1" "$(sum_of_program)" > "$new"

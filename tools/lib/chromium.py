@@ -1,4 +1,4 @@
-"""Imported by tools/page.py: a headless Chromium (Debian's package), spoken to by its DevTools protocol."""
+"""Controls a headless Chromium (Debian's package) over its DevTools protocol, for tools/page.py."""
 
 import base64
 import contextlib
@@ -10,16 +10,16 @@ import subprocess
 import tempfile
 import time
 
-# How long it may take over an answer.
+# The maximum duration of an answer.
 SECONDS = 30
 
 
 class BrowserFault(Exception):
-    """The browser does not answer, or says that it cannot do what was asked."""
+    """The browser did not answer in time, or answered with an error."""
 
 
 class Browser:
-    """Chromium without a window, spoken to by its DevTools protocol over two pipes: JSON, and a zero byte after each message."""
+    """A Chromium without a window. Its messages are JSON, over two pipes; a zero byte ends each."""
 
     def __init__(self, program):
         self.folder = tempfile.TemporaryDirectory(prefix="page-")
@@ -44,7 +44,7 @@ class Browser:
             raise
 
     def begin(self):
-        """A tab, and what is to be told of it."""
+        """Opens a tab of 1360 by 900 pixels and turns on the events of page, scripts and log."""
         target = self.ask("Target.createTarget", url="about:blank")["targetId"]
         self.tab = self.ask("Target.attachToTarget", targetId=target, flatten=True)["sessionId"]
         for it in ("Page.enable", "Runtime.enable", "Log.enable"):
@@ -52,6 +52,7 @@ class Browser:
         self.ask("Emulation.setDeviceMetricsOverride", width=1360, height=900, deviceScaleFactor=1, mobile=False)
 
     def message(self, ends):
+        """Returns the next message. Raises BrowserFault if none comes before `ends`."""
         while b"\0" not in self.rest:
             if not select.select([self.reads], [], [], max(0.0, ends - time.monotonic()))[0]:
                 raise BrowserFault("the browser does not answer")
@@ -63,6 +64,7 @@ class Browser:
         return json.loads(message)
 
     def ask(self, method, **words):
+        """Calls a method and returns its result. Events that come first are stored."""
         self.number += 1
         asked = {"id": self.number, "method": method, "params": words, **({"sessionId": self.tab} if self.tab else {})}
         os.write(self.writes, json.dumps(asked).encode() + b"\0")
@@ -74,39 +76,44 @@ class Browser:
         return came["result"]
 
     def value(self, script):
-        """What an expression of JavaScript is in the page."""
+        """Returns the value of a JavaScript expression in the page."""
         came = self.ask("Runtime.evaluate", expression=script, awaitPromise=True, returnByValue=True)
         if "exceptionDetails" in came:
             raise BrowserFault(f"{script}: {came['exceptionDetails'].get('exception', {}).get('description')}")
         return came["result"].get("value")
 
     def press(self, key, text=""):
+        """Presses and releases Enter or Escape."""
         for kind in ("keyDown", "keyUp"):
             self.ask("Input.dispatchKeyEvent", type=kind, key=key, code=key, windowsVirtualKeyCode=13 if key == "Enter" else 27, text=text if kind == "keyDown" else "")
 
     def type(self, place, text):
-        """Has this text in a field, as if it were typed."""
+        """Replaces the text of a field, as typing would."""
         self.value(f"(() => {{ const it = document.querySelector({place!r}); it.focus(); it.select(); }})()")
         self.ask("Input.insertText", text=text)
 
     def click(self, place):
+        """Clicks the element of this CSS selector."""
         self.value(f"document.querySelector({place!r}).click()")
 
     def text(self, place):
+        """Returns the text of the element of this CSS selector, or '' if there is none."""
         return self.value(f"document.querySelector({place!r})?.textContent ?? ''")
 
     def shoot(self, path):
+        """Writes a picture of the page, as PNG."""
         shot = self.ask("Page.captureScreenshot", format="png")
         with open(path, "wb") as it:
             it.write(base64.b64decode(shot["data"]))
 
     def errors(self):
-        """What the browser's console has of errors: also of what the policy forbids."""
+        """Returns the errors in the browser's console, with violations of the content policy."""
         self.value("0")
         logged = [it["params"]["entry"]["text"] for it in self.events if it["method"] == "Log.entryAdded" and it["params"]["entry"]["level"] == "error"]
         return logged + [str(it["params"]["exceptionDetails"]) for it in self.events if it["method"] == "Runtime.exceptionThrown"]
 
     def close(self):
+        """Ends the browser: by its own command, or by SIGKILL if it does not end in time."""
         with contextlib.suppress(BrowserFault, OSError):
             self.tab = None
             self.ask("Browser.close")

@@ -1,4 +1,5 @@
-// What tools/page.py looks at: a source that a driver keeps running, and two branches, of which nothing empties the right one. Here are bytes of UTF-8: ä €
+// The configuration that tools/page.py checks: a source that a driver keeps running, and two
+// branches, of which the right one is never emptied. It has bytes of UTF-8: ä €
 elementclass Branch { $capacity | input -> c :: Counter -> q :: Queue($capacity) -> output; }
 InfiniteSource("<b>ab</b>", -1, 1) -> c :: Counter -> s :: Switch(0) -> left :: Branch(64) -> Unqueue -> Discard;
 s [1] -> right :: Branch(20) -> Idle;

@@ -1,4 +1,5 @@
-//! The gateway of bench/engine's peer behind a mutex, with a history of all calls: so many threads make so many rounds each.
+//! The gateway of the peer of bench/engine behind a mutex, with a history of all calls. A number of
+//! threads each make a number of rounds.
 #![allow(dead_code)]
 
 #[path = "../../engine/peer/elements.rs"]
@@ -35,7 +36,7 @@ struct Desk {
     entries: Vec<Entry>,
 }
 
-// The router is used by whoever holds the mutex alone.
+// Only the thread that holds the mutex uses the router.
 struct Owned(Desk);
 unsafe impl Send for Owned {}
 

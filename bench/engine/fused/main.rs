@@ -1,12 +1,13 @@
-//! The case `forward` of `engine` of bench/drive, fused by hand into one loop: what its elements do to a packet stands in one row, with nothing between one element
-//! and the next, and a packet is copied into a queue of slots and looked at there. It is what a gateway without a configuration can cost at the least.
+//! The case `forward` of `engine` of bench/drive, fused by hand into one loop without elements. A
+//! packet is copied into a queue of slots and read there. This is a lower bound for a gateway that
+//! has no configuration.
 
 use std::hint::black_box;
 
 const ROOM: usize = 1600;
 const QUEUE: usize = 1_000;
 const ETHERNET: usize = 14;
-/// The longest packet that this path takes, and where it lies while it is worked on.
+/// The longest packet that the loop takes, and the size of the buffer in which it is changed.
 const LONGEST: usize = 80;
 
 struct Slot {
@@ -21,7 +22,7 @@ struct Route {
 }
 
 struct Gateway {
-    /// The longest prefixes first.
+    /// The routes, with the longest prefixes first.
     routes: Vec<Route>,
     header: [u8; ETHERNET],
     queue: Vec<Slot>,
@@ -41,7 +42,7 @@ fn folded(sum: u32) -> u32 {
     (once & 0xffff) + (once >> 16)
 }
 
-/// CheckIPHeader.
+/// Returns whether a CheckIPHeader would accept the packet.
 fn is_good(bytes: &[u8]) -> bool {
     if bytes.len() < 20 || bytes[0] >> 4 != 4 {
         return false;
@@ -78,7 +79,7 @@ impl Gateway {
         }
     }
 
-    /// From InfiniteSource to the Queue. Whether the packet came there.
+    /// Does the work from InfiniteSource to the Queue, and returns whether the packet was stored.
     #[inline(always)]
     fn store(&mut self, source: &[u8]) -> bool {
         let mut room = [0; ETHERNET + LONGEST];
@@ -117,7 +118,7 @@ impl Gateway {
         true
     }
 
-    /// From Unqueue by the Counter to Discard.
+    /// Does the work from Unqueue over the Counter to Discard.
     #[inline(always)]
     fn take(&mut self) {
         self.count += 1;
@@ -126,7 +127,7 @@ impl Gateway {
         self.len -= 1;
     }
 
-    /// A round: how many packets its two tasks gave and pulled.
+    /// Makes a round, and returns how many packets its two tasks emitted and pulled.
     #[inline(never)]
     fn round(&mut self, source: &[u8]) -> u64 {
         if !self.store(source) {
@@ -139,7 +140,7 @@ impl Gateway {
 
 fn main() {
     let times: usize = std::env::args().nth(1).unwrap().parse().unwrap();
-    // From 10.0.0.1 to 10.1.0.2, to the port 1031.
+    // A packet from 10.0.0.1 to 10.1.0.2, port 1031.
     let mut packet = vec![
         0x45, 0, 0, 64, 0, 1, 0, 0, 64, 17, 0x66, 0xa9, 10, 0, 0, 1, 10, 1, 0, 2, 0x10, 0, 0x04, 0x07, 0, 44, 0, 0,
     ];

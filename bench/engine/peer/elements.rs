@@ -1,4 +1,4 @@
-//! What the elements do.
+//! The elements.
 
 use crate::packet::Packet;
 use crate::router::{Element, Joints, Router};
@@ -17,7 +17,7 @@ macro_rules! joints {
     };
 }
 
-/// FromDevice, ToDevice and Null: packets pass.
+/// FromDevice, ToDevice and Null: packets pass unchanged.
 #[derive(Default)]
 pub struct Null {
     pub joints: Joints,
@@ -64,7 +64,8 @@ pub fn header_len(bytes: &[u8]) -> Option<usize> {
     (20 <= len && len <= bytes.len()).then_some(len)
 }
 
-/// The ones' complement sum of a header is ffff; the order of a word's bytes does not matter to that.
+/// Returns whether the ones' complement sum of a header is ffff. The order of the bytes in a word
+/// does not matter.
 pub fn sums_up(header: &[u8]) -> bool {
     let total: u64 = header
         .chunks_exact(4)
@@ -95,7 +96,7 @@ impl CheckIPHeader {
     }
 }
 
-/// Sends a packet aside, which is to output 1, if it is there.
+/// Sends a packet to output 1, if it is connected.
 pub fn aside(router: &Router, joints: &Joints, packet: Box<Packet>) -> Option<Box<Packet>> {
     router.push(joints, 1, packet);
     None
@@ -142,7 +143,7 @@ impl Route {
     }
 }
 
-/// Routes with the longest prefixes first, so that the first that fits is the answer.
+/// Routes with the longest prefixes first, so that the first match is the answer.
 pub struct StaticIPLookup {
     pub joints: Joints,
     pub routes: Vec<Route>,
@@ -180,7 +181,7 @@ pub struct DecIPTTL {
 impl Element for DecIPTTL {
     joints!();
 
-    /// The checksum grows by what the time to live falls by (RFC 1624).
+    /// Updates the checksum for a time to live that is decremented (RFC 1624).
     fn simple_action(&self, router: &Router, mut packet: Box<Packet>) -> Option<Box<Packet>> {
         let Some(len) = header_len(packet.data()) else {
             return aside(router, &self.joints, packet);
@@ -295,7 +296,7 @@ impl Element for Counter {
     }
 }
 
-/// With a push input.
+/// A Discard with a push input.
 #[derive(Default)]
 pub struct Discard {
     pub joints: Joints,
@@ -366,7 +367,7 @@ impl Element for RoundRobinSched {
     }
 }
 
-/// The four bytes from an offset on agree with the value in the bits of the mask.
+/// A clause of a pattern: the four bytes from an offset on have to equal the value under the mask.
 pub struct Clause {
     pub offset: usize,
     pub mask: u32,

@@ -1,5 +1,6 @@
-//! The cases of `engine` of bench/drive in plain Rust: elements as boxed trait objects that are joined by index, packets from a
-//! pool that are handed on in their boxes, pushes and pulls as recursive virtual calls.
+//! The cases of `engine` of bench/drive in plain Rust. Elements are boxed trait objects that are
+//! connected by index. Packets come from a pool and are passed on in their boxes. Pushes and pulls
+//! are recursive virtual calls.
 
 mod elements;
 mod packet;

@@ -1,9 +1,9 @@
-//! Packets and their pool.
+//! Packets, and the pool that they come from.
 
 use std::cell::RefCell;
 
 pub const LIMIT: usize = 1600;
-/// Room for headers before a packet's bytes.
+/// The room for headers before a packet's bytes.
 pub const HEADROOM: usize = 64;
 
 pub struct Packet {
@@ -59,7 +59,7 @@ impl Packet {
     }
 }
 
-/// Packets that are not in use.
+/// The packets that are not in use.
 #[derive(Default)]
 pub struct Pool {
     free: RefCell<Vec<Box<Packet>>>,

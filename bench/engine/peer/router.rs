@@ -1,4 +1,4 @@
-//! Elements that are joined by index.
+//! Elements that are connected by index.
 
 use crate::packet::{Packet, Pool};
 
@@ -8,7 +8,7 @@ pub struct Port {
     pub port: usize,
 }
 
-/// The ports that an element is joined to.
+/// The ports that an element is connected to.
 #[derive(Default)]
 pub struct Joints {
     pub outputs: Vec<Port>,
@@ -20,7 +20,7 @@ pub trait Element {
 
     fn joints_mut(&mut self) -> &mut Joints;
 
-    /// What an element with one input and one output does.
+    /// Does the work of an element with one input and one output.
     fn simple_action(&self, _router: &Router, packet: Box<Packet>) -> Option<Box<Packet>> {
         Some(packet)
     }
@@ -73,7 +73,7 @@ impl Router {
         self.elements.len() - 1
     }
 
-    /// Joins an output to an input.
+    /// Connects an output to an input.
     pub fn join(&mut self, from: usize, output: usize, to: usize, input: usize) {
         let outputs = &mut self.elements[from].joints_mut().outputs;
         assert_eq!(outputs.len(), output);

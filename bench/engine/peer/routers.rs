@@ -4,7 +4,7 @@ use crate::elements::*;
 use crate::router::{Joints, Router};
 use std::cell::Cell;
 
-/// A packet of 64 bytes from 10.0.0.1 to 10.1.0.2, to the port 1031.
+/// A packet of 64 bytes from 10.0.0.1 to 10.1.0.2, port 1031.
 pub fn packet_bytes() -> Vec<u8> {
     let mut bytes = vec![
         0x45, 0, 0, 64, 0, 1, 0, 0, 64, 17, 0x66, 0xa9, 10, 0, 0, 1, 10, 1, 0, 2, 0x10, 0, 0x04, 0x07, 0, 44,
@@ -47,7 +47,7 @@ pub fn forward() -> Router {
     router
 }
 
-/// A router with a FromDevice(a) at its first place.
+/// Returns a router with a FromDevice(a) as its first element.
 pub fn with_device() -> Router {
     let mut router = Router::new();
     let source = router.add(Null::default());

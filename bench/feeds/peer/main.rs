@@ -1,5 +1,6 @@
-//! A packet of 64 bytes through a ring of one producer and one consumer in plain Rust, made as rtrb makes it: two indices, each with a copy of the other end's
-//! that is read anew only where the ring seems full or empty; slots that are written and read in place.
+//! A packet of 64 bytes through a ring of one producer and one consumer in plain Rust, as the crate
+//! rtrb does it. Each end has an index and a copy of the other end's index, which is read again
+//! only if the ring seems full or empty. Slots are written and read in place.
 use std::cell::UnsafeCell;
 use std::mem::MaybeUninit;
 use std::sync::Arc;
@@ -36,7 +37,8 @@ struct Consumer {
 }
 
 impl Shared {
-    /// Indices run over twice the places, so that a full ring is told from an empty one.
+    /// Indices count modulo twice the number of places, to distinguish a full ring from an empty
+    /// one.
     fn distance(&self, from: usize, to: usize) -> usize {
         if from <= to { to - from } else { 2 * self.slots.len() - from + to }
     }
@@ -85,7 +87,7 @@ fn ring(places: usize) -> (Producer, Consumer) {
     (Producer { shared: shared.clone(), head: 0, tail: 0 }, Consumer { shared, head: 0, tail: 0 })
 }
 
-/// Up to so many packets, as a poll draws them.
+/// Draws up to `most` packets, as a poll does.
 #[inline(never)]
 fn draw(consumer: &mut Consumer, most: usize, taken: &mut Vec<Packet>) {
     for _ in 0..most {

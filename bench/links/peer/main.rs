@@ -1,4 +1,6 @@
-//! What bench/links measures the router beside: two UDP sockets, and what comes to the one from its peer goes from the other to its own, in a thread for each way.
+//! The forwarder that bench/links compares the router with: two UDP sockets, and a thread for each
+//! direction. A datagram that one socket gets from its peer is sent by the other one to its own
+//! peer.
 //!
 //!     peer HERE THERE OTHER_HERE OTHER_THERE
 
@@ -6,7 +8,7 @@ use std::net::{Ipv4Addr, SocketAddr, UdpSocket};
 use std::sync::atomic::{AtomicU64, Ordering::Relaxed};
 use std::thread;
 
-/// The most bytes of a packet.
+/// The maximum number of bytes of a packet.
 const LONGEST: usize = 1600;
 
 struct Link {

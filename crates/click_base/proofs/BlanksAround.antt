@@ -1,4 +1,4 @@
--- Lemmas on the blanks at the ends of texts.
+-- Lemmas about the blanks at the ends of a text.
 use Rattle.std.proofs.Common.{◌≡◌, ℕ, List, [], ◌∷◌, ◌++◌, reverse, true, false, refl, sym, ap, ◌∙◌, append-nil, inl, inr}
 use Rattle.std.specs.List.{list_all}
 use Rattle.std.proofs.lemmas.Bool.{cases_Bool}
@@ -7,7 +7,7 @@ use Rattle.std.proofs.lemmas.List.Folds.{list_all-append}
 use Rattle.std.specs.Prelude.{if◌then◌else◌}
 use Rattle.click_base.specs.Blanks.{is_blank, without_front, trimmed}
 
--- the blanks in front
+-- the blanks that `without_front` leaves out
 front_of : List ℕ → List ℕ
 front_of [] = []
 front_of (b ∷ bs) = if is_blank b then b ∷ front_of bs else []
@@ -28,7 +28,7 @@ front-cut (b ∷ bs) = elim (cases_Bool (is_blank b)) [
   | inr f ↦ rw f refl
 ]
 
--- what is left begins with no blank
+-- what `without_front` keeps does not begin with a blank
 begins : (bs rest : List ℕ) (b : ℕ) → without_front bs ≡ b ∷ rest → is_blank b ≡ false
 begins [] rest b e = cc
 begins (x ∷ xs) rest b e = elim (cases_Bool (is_blank x)) [
@@ -46,7 +46,7 @@ all-reverse (b ∷ bs) h = elim (cases_Bool (is_blank b)) [
   | inr f ↦ let g = rw f at h in cc
 ]
 
--- the blanks behind
+-- the blanks that `trimmed` leaves out at the back
 back_of : List ℕ → List ℕ
 back_of bs = reverse (front_of (reverse (without_front bs)))
 
@@ -74,7 +74,7 @@ last text rest b e =
     let r = reverse (without_front text) in
     begins r (reverse rest) b (sym (reverse-reverse (without_front r)) ∙ ap reverse e ∙ reverse-append rest (b ∷ []))
 
--- ---- blanks around a text
+-- ---- a text with blanks around it
 
 passed : (front text : List ℕ) → list_all is_blank front ≡ true → without_front (front ++ text) ≡ without_front text
 passed [] text h = refl

@@ -1,11 +1,11 @@
--- Where the last dot of a name stands.
+-- Lemmas about the last dot of a name.
 use Rattle.std.proofs.Common.{◌≡◌, ℕ, ◌+◌, ◌-◌, ◌<◌, List, true, false, not, length, get_or, take, drop, sym, ap, ◌∙◌, arith}
 use Rattle.std.specs.List.{suffix_len, before_last, after_last}
 use Rattle.std.proofs.lemmas.Bool.{not_from_false, not_from_true}
 use Rattle.std.proofs.lemmas.List.Sums.{suffix_len_is}
 use Rattle.click_base.specs.Dotted.{is_dot}
 
--- no dot stands behind place k, and one there
+-- the length of what follows the last dot, if that dot is at index k
 suffix-at : (name : List ℕ) (k : ℕ) → k < length name → is_dot (get_or name k 0) ≡ true → ((j : ℕ) → k < j → j < length name → is_dot (get_or name j 0) ≡ false) →
     suffix_len (λ b. not (is_dot b)) name ≡ length name - (k + 1)
 suffix-at name k q dot after =

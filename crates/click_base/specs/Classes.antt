@@ -1,10 +1,10 @@
--- The classes, their order and their names (Click element reference).
+-- The thirty element classes, their order and their names (Click element reference).
 use Rattle.std.specs.Prelude.{ℕ, List, [], ◌∷◌, codes, find, Option}
 use Rattle.std.specs.Str.{bytes_eq}
 use Rattle.click_base.specs.declared.class.Class.{Class}
 use Rattle.click_base.specs.declared.class.Class.TheVariants as class
 
--- the thirty classes in the order of the reference
+-- the classes in the order of Click's element reference
 abbrev pub classes : List Class
 classes =
     class.Queue ∷ class.FrontDropQueue ∷ class.Unqueue ∷ class.Counter ∷ class.Switch ∷ class.PullSwitch ∷ class.RoundRobinSwitch ∷
@@ -13,7 +13,7 @@ classes =
     class.GetIPAddress ∷ class.StaticIPLookup ∷ class.CheckIPHeader ∷ class.DecIPTTL ∷ class.EtherEncap ∷ class.InfiniteSource ∷
     class.FromDevice ∷ class.ToDevice ∷ []
 
--- a class's name, as configurations write it
+-- the name that stands for the class in configurations
 abbrev pub name : Class → List ℕ
 name class.Queue = codes "Queue"
 name class.FrontDropQueue = codes "FrontDropQueue"
@@ -46,6 +46,6 @@ name class.InfiniteSource = codes "InfiniteSource"
 name class.FromDevice = codes "FromDevice"
 name class.ToDevice = codes "ToDevice"
 
--- the class of that name
+-- the class with this name, if there is one
 unfoldable pub class_of : List ℕ → Option Class
 class_of text = find (λ c. bytes_eq (name c) text) classes

@@ -1,4 +1,4 @@
--- Names of two parts with a dot between (Click manual, "Handlers").
+-- Names of two parts with a dot between them (Click manual, "Handlers").
 use Rattle.std.specs.Prelude.{ℕ, Bool, nat_eq}
 
 abbrev pub is_dot : ℕ → Bool

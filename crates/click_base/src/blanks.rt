@@ -3,14 +3,14 @@
 ghost use Rattle.std.specs.Prelude.{◌≡◌};
 ghost use Rattle.click_base.specs.Blanks.{is_blank, without_front, trimmed};
 
-/// Whether the byte is a space or a tab.
+/// Returns whether the byte is a blank: a space or a tab.
 pub fn is_blank(byte: u8) -> bool
     ensures { result ≡ is_blank byte }
 {
     byte == b' ' || byte == b'\t'
 }
 
-/// The bytes from the first that is no blank on.
+/// Returns the bytes without the blanks at their front.
 pub fn without_front(bytes: &[u8]) -> &[u8]
     ensures { result.now ≡ without_front bytes.now }
 {
@@ -22,7 +22,7 @@ pub fn without_front(bytes: &[u8]) -> &[u8]
     &bytes[bytes.len()..]
 }
 
-/// The bytes without blanks at their ends.
+/// Returns the bytes without the blanks at their front and back.
 pub fn trimmed(bytes: &[u8]) -> &[u8]
     ensures { result.now ≡ trimmed bytes.now }
 {

@@ -1,10 +1,10 @@
-//! The classes and their names.
+//! The thirty element classes and their names.
 
 ghost use Rattle.std.specs.Prelude.{◌≡◌};
 ghost use Rattle.std.specs.Str.{bytes_eq};
 ghost use Rattle.click_base.specs.Classes.{name as name_of, class_of};
 
-/// A class of elements (Click element reference).
+/// An element class (Click element reference).
 #[derive(Clone, Copy, Debug, PartialEq, Eq)]
 pub enum Class {
     Queue,
@@ -39,7 +39,7 @@ pub enum Class {
     ToDevice,
 }
 
-/// The classes in the order of the reference.
+/// The classes in the order of Click's element reference.
 pub const CLASSES: [Class; 30] = [
     Class::Queue,
     Class::FrontDropQueue,
@@ -74,7 +74,7 @@ pub const CLASSES: [Class; 30] = [
 ];
 
 impl Class {
-    /// The name that configurations write.
+    /// Returns the name that stands for the class in configurations.
     pub fn name(self) -> &'static [u8]
         ensures { result.now ≡ name_of self }
     {
@@ -113,7 +113,9 @@ impl Class {
     }
 }
 
-/// Whether the class has that name. Most names differ in their lengths, which are compared first.
+/// Returns whether the class has this name.
+///
+/// perf: the lengths are compared first, because most names differ in length.
 fn is_named(class: Class, name: &[u8]) -> bool
     ensures { result ≡ bytes_eq (name_of class) name.now }
 {
@@ -121,7 +123,7 @@ fn is_named(class: Class, name: &[u8]) -> bool
     own.len() == name.len() && own == name
 }
 
-/// The class of that name.
+/// Returns the class with this name, if there is one.
 #[tactic(auto, unfolding(crate::specs::Classes::class_of))]
 pub fn class_of(name: &[u8]) -> Option<Class>
     ensures { result ≡ class_of name.now }

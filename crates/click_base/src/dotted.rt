@@ -1,4 +1,5 @@
-//! Names of two parts with a dot between, as `element.handler` (Click manual, "Handlers").
+//! Names of two parts with a dot between them, such as `element.handler` (Click manual,
+//! "Handlers").
 
 ghost use Rattle.std.specs.Prelude.{◌≡◌, is_some, IfSome};
 ghost use Rattle.std.specs.List.{list_any, before_last, after_last};
@@ -6,7 +7,7 @@ ghost use Rattle.click_base.specs.Dotted.{is_dot};
 
 use memchr::memrchr;
 
-/// The two parts of a name, parted by its last dot: none where it has no dot.
+/// Returns the parts of a name before and after its last dot, or `None` if it has no dot.
 pub fn split(name: &[u8]) -> Option<(&[u8], &[u8])>
     ensures dot { is_some result ≡ list_any is_dot name.now }
     ensures front { IfSome result (λ parts. parts.0.now ≡ before_last is_dot name.now) }

@@ -1,4 +1,4 @@
-//! What holds of the definitions.
+//! Theorems about the definitions of this crate.
 
 ghost use Rattle.std.specs.Prelude.{◌≡◌, ◌↔◌, ◌∷◌, ◌++◌, [], ℕ, List, Some, true, false};
 ghost use Rattle.std.specs.List.{list_all};
@@ -7,17 +7,18 @@ ghost use Rattle.click_base.specs.Classes.{classes, name, class_of};
 ghost use Rattle.click_base.specs.declared.class.Class.{Class};
 ghost use Rattle.click_base.specs.declared.class.TheConstants.{CLASSES};
 
-/// The classes stand in the order of the reference.
+/// The constant `CLASSES` lists the classes in the order of the definition `classes`.
 pub fn classes_in_order()
     ensures { CLASSES ≡ classes }
 {}
 
-/// Each class is found by its name, and by no other word.
+/// Each class is found by its name, and by no other text.
 pub fn found_by_name()
     ensures { (c : Class) (text : List ℕ) → (class_of text ≡ Some c) ↔ (name c ≡ text) }
 {}
 
-/// What trimming leaves out of a text, in front and behind, is blank, and what it keeps neither begins nor ends with a blank.
+/// `trimmed` leaves out only blanks, at the front and at the back of a text. What it keeps neither
+/// begins nor ends with a blank.
 pub fn only_blanks_at_the_ends_are_left_out()
     ensures left_out { (text : List ℕ) → (front : List ℕ) × (back : List ℕ) × (list_all is_blank front ≡ true) × (list_all is_blank back ≡ true)
         × (text ≡ front ++ (trimmed text ++ back)) }
@@ -25,7 +26,8 @@ pub fn only_blanks_at_the_ends_are_left_out()
     ensures last { (text rest : List ℕ) (b : ℕ) → trimmed text ≡ rest ++ (b ∷ []) → is_blank b ≡ false }
 {}
 
-/// A text without a blank at its ends is what trimming keeps of it with any blanks around it.
+/// A text that neither begins nor ends with a blank is the trimmed form of the same text with any
+/// blanks in front of it and behind it.
 pub fn blanks_around_a_text_are_left_out()
     ensures { (front text back : List ℕ) → list_all is_blank front ≡ true → list_all is_blank back ≡ true
         → ((b : ℕ) (rest : List ℕ) → text ≡ b ∷ rest → is_blank b ≡ false) → ((b : ℕ) (rest : List ℕ) → text ≡ rest ++ (b ∷ []) → is_blank b ≡ false)

@@ -1,4 +1,4 @@
-//! What every layer stands on: the element classes by name, lists that contracts see, blanks, and dotted names.
+//! What all other crates build on: the element classes by name, lists, blanks, and dotted names.
 #![tactic(auto)]
 
 mod blanks;

@@ -1,11 +1,11 @@
-//! A list of parts, which contracts see as a list.
+//! A growable list that contracts see as a list.
 
 ghost use Rattle.std.specs.Prelude.{◌≡◌, [], ◌∷◌, ◌++◌, length, IfOk, OnOk, OnErr};
 
 use std::alloc::{AllocError, Global};
 use std::marker::Model;
 
-/// Parts in order.
+/// Items in order. Contracts see the value as the list of its items.
 #[derive(Debug, Drop)]
 pub struct Sequence<T> {
     items: Vec<T>,
@@ -20,7 +20,7 @@ impl<T> Model for Sequence<T> {
 }
 
 impl<T> Sequence<T> {
-    /// An empty list.
+    /// Returns an empty list.
     pub fn new(alloc: Global) -> Self
         ensures { result ≡ [] }
     {
@@ -29,21 +29,21 @@ impl<T> Sequence<T> {
         }
     }
 
-    /// The parts of a vector.
+    /// Returns the list of a vector's items.
     pub fn of(items: Vec<T>) -> Self
         ensures { result ≡ items.items }
     {
         Sequence { items }
     }
 
-    /// The parts, in order.
+    /// Returns the items, in order.
     pub fn as_slice(&self) -> &[T]
         ensures { result.now ≡ self.now }
     {
         self.items.as_slice()
     }
 
-    /// How many there are.
+    /// Returns the number of items.
     pub fn len(&self) -> usize
         ensures { result ≡ length self.now }
     {
@@ -52,7 +52,7 @@ impl<T> Sequence<T> {
 }
 
 impl Sequence<u8> {
-    /// A copy of these bytes.
+    /// Returns a copy of these bytes, or fails with out of memory.
     pub fn copy_of(alloc: Global, bytes: &[u8]) -> Result<Self, AllocError>
         ensures { IfOk result (λ copy. copy ≡ bytes.now) }
     {
@@ -61,7 +61,7 @@ impl Sequence<u8> {
         })
     }
 
-    /// A copy of the bytes.
+    /// Returns a copy of the list, or fails with out of memory.
     pub fn copy(&self, alloc: Global) -> Result<Self, AllocError>
         ensures { IfOk result (λ copy. copy ≡ self.now) }
     {
@@ -70,7 +70,7 @@ impl Sequence<u8> {
 }
 
 impl<T: Drop> Sequence<T> {
-    /// Adds a part at the end. Where memory runs out, the list stays as it was.
+    /// Appends an item. If it fails with out of memory, the list is unchanged.
     pub fn push(&mut self, part: T) -> Result<(), AllocError>
         ensures ok { OnOk result (self.new ≡ self.old ++ part ∷ []) }
         ensures err { OnErr result (self.new ≡ self.old) }

@@ -1,4 +1,4 @@
--- No two captures have the same bytes, and none has a fault in its header.
+-- The bytes of a capture determine its header and records, and the bytes of a header have no fault.
 use Rattle.std.proofs.Common.{◌≡◌, ℕ, ◌<◌, ◌^◌, List, [], ◌∷◌, ◌++◌, length, take, drop, Result, Ok, Err, refl, sym, ap, subst, ◌∙◌, append_assoc, arith, lit<}
 use Rattle.std.specs.Prelude.{IfOk, IfErr}
 use Rattle.std.specs.Int.{w16, w32, from_le_bytes, from_be_bytes}
@@ -34,7 +34,7 @@ half-one : (o : Order) (m n : ℕ) → m < 2 ^ 16 → n < 2 ^ 16 → half o m �
 half-one order.Little m n p q e = sym (from_le_bytes-to_le_bytes_2 m p) ∙ ap (from_le_bytes w16) e ∙ from_le_bytes-to_le_bytes_2 n q
 half-one order.Big m n p q e = sym (from_be_bytes-to_be_bytes_2 m p) ∙ ap (from_be_bytes w16) e ∙ from_be_bytes-to_be_bytes_2 n q
 
--- two lists that begin with parts of one length
+-- two lists that begin with parts of the same length
 fronts : (a b x y : List ℕ) (k : ℕ) → length a ≡ k → length b ≡ k → a ++ x ≡ b ++ y → a ≡ b
 fronts a b x y k p q e = sym (take_at a x k p) ∙ ap (take k) e ∙ take_at b y k q
 
@@ -45,9 +45,9 @@ word-front : (o : Order) (m n : ℕ) (x y : List ℕ) → m < 2 ^ 32 → n < 2 ^
 word-front o m n x y p q e =
     (word-one o m n p q (fronts (word o m) (word o n) x y 4 (word-len o m) (word-len o n) e), rests (word o m) (word o n) x y 4 (word-len o m) (word-len o n) e)
 
--- ---- the kind of a capture
+-- ---- the magic number
 
--- four bytes are one number, whatever kind of capture they tell
+-- different numbers have different bytes in the same byte order
 differ : (m n : ℕ) → m < 2 ^ 32 → n < 2 ^ 32 → (m ≡ n → ⊥) → word order.Little m ≡ word order.Little n → ⊥
 differ m n p q apart e = apart (word-one order.Little m n p q e)
 
@@ -87,11 +87,11 @@ link-fits link.Ipv4 = omega arith
 
 -- ---- headers
 
--- what stands behind the version
+-- the bytes after the version
 fields : Order → Header → List ℕ → List ℕ
 fields o h x = word o h.zone ++ (word o h.accuracy ++ (word o h.snap ++ (word o (link_number h.link) ++ x)))
 
--- a header and what follows it, with the version as one part
+-- a header and the bytes after it, with the version as one part
 in_parts : (h : Header) (x : List ℕ) → header_bytes h ++ x ≡ word h.order (magic h.resolution) ++ ((half h.order 2 ++ half h.order 4) ++ fields h.order h x)
 unfolding fields
 in_parts h x = simp append_assoc
@@ -201,7 +201,7 @@ linked h =
     let len : length (front ++ word o h.snap) ≡ 20 = omega (arith, length-append front (word o h.snap), five o (magic h.resolution) h.accuracy h.zone 0, word-len o h.snap) in
     drop_at (front ++ word o h.snap) (word o (link_number h.link)) 20 len
 
--- no magic number is what a pcapng file begins with
+-- no magic number is the beginning of a pcapng file
 no_section : (o : Order) (r : Resolution) → word o (magic r) ≡ section_header → ⊥
 no_section order.Little resolution.Micro e = cc
 no_section order.Little resolution.Nano e = cc
@@ -223,7 +223,7 @@ no_fault h (fault.Link number) fits bad =
     let told : word h.order (link_number h.link) ≡ word h.order number = sym (linked h) ∙ bad.4 ∙ ap (λ (o : Order). word o number) (sym kind.0) in
     bad.5 h.link (sym (word-one h.order (link_number h.link) number (link-fits h.link) bad.6 told))
 
--- bytes that are a header's give just that header
+-- if these are the bytes of a header, exactly that header is returned
 pub read_again : (r : Result Header HeaderFault) (bytes : List ℕ) → IfOk r (λ k. (bytes ≡ header_bytes k) × FitsHeader k) → IfErr r (IsHeaderFault bytes)
     → (h : Header) → FitsHeader h → bytes ≡ header_bytes h → r ≡ Ok h
 read_again (Ok k) bytes good bad h fits e =

@@ -1,29 +1,31 @@
-//! Why bytes are no capture that is read here.
+//! Faults of captures.
 
 use thiserror::Error;
 
-/// What is wrong with a capture's header: the first of these, from the left. The text says at which byte of the capture it stands, counted from 0.
+/// A fault of a capture's header: the first one from the left.
+///
+/// Its text names the byte of the capture at which it is, counted from 0.
 #[derive(Clone, Copy, Debug, PartialEq, Eq, Error)]
 pub enum HeaderFault {
     /// The first four bytes are those of a pcapng file, the newer format.
     #[error("byte 0: a pcapng capture, of which `editcap -F pcap` of Wireshark makes a pcap capture")]
     Pcapng,
-    /// They are the magic number of no classic capture, and not those of a pcapng file either.
+    /// The first four bytes are neither a magic number of the classic format nor those of pcapng.
     #[error("byte 0: no magic number of a pcap capture")]
     Magic,
     #[error("byte 4: version {major}.{minor} of the format, and not 2.4")]
     Version { major: u16, minor: u16 },
-    /// The packets begin neither with an Ethernet header nor with an IPv4 header.
+    /// The packets begin neither with an Ethernet header nor with an IP header.
     #[error("byte 20: link type {number}, and not 1 (Ethernet), 101 (raw IP) or 228 (IPv4)")]
     Link { number: u32 },
 }
 
-/// A record has more bytes than the capture's records may have.
+/// The fault of a record with more bytes than the capture allows.
 #[derive(Clone, Copy, Debug, PartialEq, Eq, Error)]
 #[error("{claimed} bytes, where the capture has {most} a packet at most")]
 pub struct TooLong {
-    /// How many bytes the record says that it has.
+    /// The number of bytes that the record states.
     pub claimed: u32,
-    /// How many it may have.
+    /// The number of bytes that it may have.
     pub most: u32,
 }

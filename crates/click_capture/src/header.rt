@@ -11,7 +11,7 @@ use crate::fault::HeaderFault;
 use crate::order::Order;
 use std::alloc::{AllocError, Global};
 
-/// How many bytes a header has.
+/// The length of a header, in bytes.
 pub const HEADER_LEN: usize = 24;
 
 /// The version of the format that is read and written, 2.4.
@@ -19,7 +19,8 @@ const MAJOR: u16 = 2;
 
 const MINOR: u16 = 4;
 
-/// The magic numbers of captures with times in microseconds and in nanoseconds, and the same in the other byte order.
+/// The magic numbers of captures with times in microseconds and in nanoseconds, in either byte
+/// order.
 const MICRO: u32 = 0xa1b2_c3d4;
 
 const NANO: u32 = 0xa1b2_3c4d;
@@ -28,17 +29,18 @@ const MICRO_TURNED: u32 = 0xd4c3_b2a1;
 
 const NANO_TURNED: u32 = 0x4d3c_b2a1;
 
-/// What a pcapng file begins with, alike in both byte orders: the type of its section header block.
+/// The first four bytes of a pcapng file, in either byte order: the type of its section header
+/// block.
 const SECTION_HEADER: [u8; 4] = [0x0a, 0x0d, 0x0d, 0x0a];
 
-/// What the second number of a time counts.
+/// The unit of the second number of a time.
 #[derive(Clone, Copy, Debug, PartialEq, Eq)]
 pub enum Resolution {
     Micro,
     Nano,
 }
 
-/// What the packets of a capture begin with.
+/// The link type: the header that the packets of a capture begin with.
 #[derive(Clone, Copy, Debug, PartialEq, Eq)]
 pub enum Link {
     /// An Ethernet header (LINKTYPE_ETHERNET).
@@ -49,16 +51,16 @@ pub enum Link {
     Ipv4,
 }
 
-/// What stands in the header of a capture of version 2.4.
+/// The fields of a header, version 2.4.
 #[derive(Clone, Copy, Debug, PartialEq, Eq)]
 pub struct Header {
     pub order: Order,
     pub resolution: Resolution,
-    /// The time zone of the times: seconds, 0 in practice.
+    /// The time zone of the times, in seconds; 0 in practice.
     pub zone: u32,
-    /// The accuracy of the times, 0 in practice.
+    /// The accuracy of the times; 0 in practice.
     pub accuracy: u32,
-    /// How many bytes of a packet are kept at most; see `longest`.
+    /// The maximum number of bytes that are kept of a packet; see `longest`.
     pub snap: u32,
     pub link: Link,
 }
@@ -102,7 +104,9 @@ impl Link {
     }
 }
 
-/// The kind of capture that the first four bytes tell, and the bytes after them.
+/// Returns the byte order and resolution that the magic number states, and the bytes after it.
+///
+/// Returns `None` if the first four bytes are no magic number.
 fn kind_at(bytes: &[u8]) -> Option<((Order, Resolution), &[u8])>
     requires { length bytes.now ≡ 24 }
     ensures some { IfSome result (λ r. (bytes.now ≡ word r.0.0 (magic r.0.1) ++ r.1.now) × (length r.1.now ≡ 20)) }
@@ -124,7 +128,7 @@ fn kind_at(bytes: &[u8]) -> Option<((Order, Resolution), &[u8])>
     None
 }
 
-/// What bytes are that begin as no classic capture.
+/// Returns the fault of bytes that do not begin with a magic number.
 fn kind_fault(bytes: &[u8]) -> HeaderFault
     requires len { length bytes.now ≡ 24 }
     requires none { (o : AnOrder) (r : AResolution) → take 4 bytes.now ≢ word o (magic r) }
@@ -137,7 +141,9 @@ fn kind_fault(bytes: &[u8]) -> HeaderFault
     }
 }
 
-/// The header that 24 bytes are, or the first thing that is wrong with them. Bytes that are a header's give that header.
+/// Returns the header with these 24 bytes, or their first fault.
+///
+/// If these are the bytes of a header, that header is returned.
 pub fn header_of(bytes: &[u8]) -> Result<Header, HeaderFault>
     requires { length bytes.now ≡ 24 }
     ensures ok { IfOk result (λ header. bytes.now ≡ header_bytes header) }
@@ -147,7 +153,7 @@ pub fn header_of(bytes: &[u8]) -> Result<Header, HeaderFault>
     fields_of(bytes)
 }
 
-/// The fields of a header, or the first of them that is wrong.
+/// Returns the header with these 24 bytes, or their first fault.
 fn fields_of(bytes: &[u8]) -> Result<Header, HeaderFault>
     requires { length bytes.now ≡ 24 }
     ensures ok { IfOk result (λ header. (bytes.now ≡ header_bytes header) × FitsHeader header) }
@@ -178,7 +184,7 @@ fn fields_of(bytes: &[u8]) -> Result<Header, HeaderFault>
     })
 }
 
-/// The 24 bytes of a header.
+/// Returns the 24 bytes of a header, or fails with out of memory.
 pub fn header_bytes(alloc: Global, header: &Header) -> Result<Vec<u8>, AllocError>
     ensures { IfOk result (λ bytes. bytes.items ≡ header_bytes header.now) }
 {

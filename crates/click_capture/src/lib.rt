@@ -1,4 +1,4 @@
-//! Captures of packets: the classic format of pcap-savefile(5), as bytes and as values.
+//! Captures of packets in the classic format of pcap-savefile(5), as bytes and as values.
 #![tactic(auto)]
 
 mod fault;

@@ -3,17 +3,17 @@
 ghost use Rattle.std.specs.Prelude.{◌≡◌, ◌+◌, ◌≤◌, ◌++◌, length};
 ghost use Rattle.click_capture.specs.Numbers.{word, half};
 
-/// Which byte of a number stands first: that of the machine that wrote the capture.
+/// The order of a number's bytes: that of the machine that wrote the capture.
 #[derive(Clone, Copy, Debug, PartialEq, Eq)]
 pub enum Order {
-    /// The lowest byte.
+    /// The lowest byte comes first.
     Little,
-    /// The highest byte.
+    /// The highest byte comes first.
     Big,
 }
 
 impl Order {
-    /// A number in four bytes.
+    /// Returns the number as four bytes.
     pub(crate) fn word(self, number: u32) -> [u8; 4]
         ensures { result ≡ word self number }
     {
@@ -23,7 +23,7 @@ impl Order {
         }
     }
 
-    /// A number in two bytes.
+    /// Returns the number as two bytes.
     pub(crate) fn half(self, number: u16) -> [u8; 2]
         ensures { result ≡ half self number }
     {
@@ -33,7 +33,7 @@ impl Order {
         }
     }
 
-    /// The number in the first four bytes, and the bytes after it.
+    /// Returns the number in the first four bytes, and the bytes after it.
     pub(crate) fn word_at(self, bytes: &[u8]) -> (u32, &[u8])
         requires { 4 ≤ length bytes.now }
         ensures parts { bytes.now ≡ word self result.0 ++ result.1.now }
@@ -43,7 +43,7 @@ impl Order {
         (self.number([front[0], front[1], front[2], front[3]]), rest)
     }
 
-    /// The number in the first two bytes, and the bytes after it.
+    /// Returns the number in the first two bytes, and the bytes after it.
     pub(crate) fn half_at(self, bytes: &[u8]) -> (u16, &[u8])
         requires { 2 ≤ length bytes.now }
         ensures parts { bytes.now ≡ half self result.0 ++ result.1.now }
@@ -53,7 +53,7 @@ impl Order {
         (self.short([front[0], front[1]]), rest)
     }
 
-    /// The number that four bytes are.
+    /// Returns the number with these four bytes.
     fn number(self, bytes: [u8; 4]) -> u32
         ensures { word self result ≡ bytes }
     {
@@ -63,7 +63,7 @@ impl Order {
         }
     }
 
-    /// The number that two bytes are.
+    /// Returns the number with these two bytes.
     fn short(self, bytes: [u8; 2]) -> u16
         ensures { half self result ≡ bytes }
     {

@@ -1,4 +1,4 @@
-//! The records of a capture: 16 bytes, and then those of a packet.
+//! The records of a capture: a head of 16 bytes, and then the bytes of a packet.
 
 ghost use Rattle.std.specs.Prelude.{◌≡◌, ◌≤◌, ◌<◌, length, IfOk, IfErr};
 ghost use Rattle.click_capture.specs.Captures.{longest, head_bytes, head_with, record_bytes, whole};
@@ -8,32 +8,34 @@ use crate::header::Header;
 use crate::order::Order;
 use std::alloc::{AllocError, Global};
 
-/// How many bytes stand before those of a packet.
+/// The length of a record's head, in bytes.
 pub const HEAD_LEN: usize = 16;
 
-/// The most bytes that a record may have, whatever the capture's header says (MAXIMUM_SNAPLEN of libpcap).
+/// The maximum number of bytes of a packet in any capture (MAXIMUM_SNAPLEN of libpcap).
 pub const LONGEST_RECORD: u32 = 262_144;
 
-/// When a packet was captured.
+/// The time at which a packet was captured.
 #[derive(Clone, Copy, Debug, PartialEq, Eq)]
 pub struct Time {
-    /// Seconds since the beginning of 1970, UTC.
+    /// The seconds since the beginning of 1970, UTC.
     pub seconds: u32,
-    /// Microseconds or nanoseconds after them, as the capture's resolution says. It is kept as it is.
+    /// The microseconds or nanoseconds after them, in the capture's resolution. May be any number.
     pub fraction: u32,
 }
 
-/// What stands before the bytes of a packet.
+/// The head of a record, which comes before the bytes of the packet.
 #[derive(Clone, Copy, Debug, PartialEq, Eq)]
 pub struct Head {
     pub time: Time,
-    /// How many of the packet's bytes follow.
+    /// The number of bytes of the packet that follow.
     pub kept: u32,
-    /// How many bytes it had on the wire.
+    /// The number of bytes that the packet had on the wire.
     pub wire: u32,
 }
 
-/// How many bytes a record has at most in a capture of this snap length: as many, but 262,144 where it is 0 or larger than that.
+/// Returns the maximum number of bytes of a packet in a capture with this snap length.
+///
+/// It is the snap length, or 262,144 if that is 0 or larger.
 pub fn longest(snap: u32) -> u32
     ensures value { result ≡ longest snap }
     ensures most { result ≤ 262144 }
@@ -45,7 +47,9 @@ pub fn longest(snap: u32) -> u32
     }
 }
 
-/// What 16 bytes say of a record of this capture, or that it is too long.
+/// Returns the head with these 16 bytes, or the fault of a record that is too long.
+///
+/// `header` is the header of the capture.
 pub fn head_of(header: &Header, bytes: &[u8]) -> Result<Head, TooLong>
     requires { length bytes.now ≡ 16 }
     ensures ok { IfOk result (λ head. (bytes.now ≡ head_bytes header.now.order head) × (head.kept ≤ longest header.now.snap)) }
@@ -65,7 +69,7 @@ pub fn head_of(header: &Header, bytes: &[u8]) -> Result<Head, TooLong>
     Ok(Head { time, kept, wire })
 }
 
-/// The record of a packet that was kept whole.
+/// Returns the bytes of the record of a packet that was kept whole, or fails with out of memory.
 pub fn record_bytes(
     alloc: Global,
     order: Order,

@@ -1,4 +1,4 @@
--- What DecIPTTL lets pass keeps a good header.
+-- A valid header stays valid if DecIPTTL lets the packet pass.
 use Rattle.std.proofs.Common.{◌≡◌, ℕ, ◌-◌, List, Option, Some, None, nat_le, inl, inr}
 use Rattle.std.proofs.lemmas.Bool.{cases_Bool}
 use Rattle.click_packet.specs.Packet.{Packet}

@@ -1,5 +1,6 @@
--- The arguments of elements: that a text has one list of them (`OneArgumentList`), what they stand for (`ArgumentValues`, `ListParts`, `Groups`,
--- `SixBytes`), and values and prefixes that are read back from their text (`ValueTexts`, `PrefixTexts`).
+-- The arguments of elements: a text has only one list of them (`OneArgumentList`). What they stand
+-- for is in `ArgumentValues`, `ListParts`, `Groups` and `SixBytes`. Values and prefixes read back
+-- from their text (`ValueTexts`, `PrefixTexts`).
 pub mod ArgumentValues
 pub mod Groups
 pub mod ListParts

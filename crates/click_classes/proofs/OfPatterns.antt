@@ -1,5 +1,6 @@
--- The patterns of classifiers: clauses (`Clauses`), what they say of a packet's bytes (`ClauseBytes`, `ClauseDigits`, `MaskedBytes`), the steps that
--- are made of them (`ClauseSteps`, `StepLists`), and clauses that are read back from their text (`ClauseTexts`).
+-- The patterns of classifiers: their clauses (`Clauses`), what these require of a packet's bytes
+-- (`ClauseBytes`, `ClauseDigits`, `MaskedBytes`), and the steps that are made of them
+-- (`ClauseSteps`, `StepLists`). Clauses read back from their text (`ClauseTexts`).
 pub mod ClauseBytes
 pub mod ClauseDigits
 pub mod ClauseSteps

@@ -1,5 +1,5 @@
--- The ports of elements: those that an element names are there (`NamedPorts`), its counts allow some use (`PortUses`), and packets leave it fitting
--- them (`PortFit`).
+-- The ports of elements: those that an element names exist (`NamedPorts`), some numbers of ports
+-- fit its counts (`PortUses`), and its state fits them after each packet (`PortFit`).
 pub mod NamedPorts
 pub mod PortFit
 pub mod PortUses

@@ -1,5 +1,5 @@
--- Queues: the slots that hold one (`RingSlots`), which packet it drops (`QueueDrops`), that it counts each (`QueueCounts`) and stays sound
--- (`QueueSoundness`).
+-- Queues: the slots that hold the packets (`RingSlots`), which packet a queue drops (`QueueDrops`),
+-- that it counts each packet (`QueueCounts`), and that it stays sound (`QueueSoundness`).
 pub mod QueueCounts
 pub mod QueueDrops
 pub mod QueueSoundness

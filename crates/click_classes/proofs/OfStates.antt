@@ -1,5 +1,5 @@
--- The states of elements: the first (`FirstStates`, `OneFirstState`), the settings that packets keep (`StateSettings`), and what is taken over
--- (`StateTakeOver`).
+-- The states of elements: the first state (`FirstStates`, `OneFirstState`), the settings that
+-- packets keep (`StateSettings`), and what is taken over (`StateTakeOver`).
 pub mod FirstStates
 pub mod OneFirstState
 pub mod StateSettings

@@ -1,4 +1,5 @@
--- What an element does with a packet (Click element reference). `inputs` and `outputs` are how many ports the element has.
+-- What an element does with a packet (Click element reference). `inputs` and `outputs` are the
+-- numbers of its ports.
 use Rattle.std.specs.Prelude.{ℕ, ◌+◌, ◌-◌, ◌^◌, ◌==◌, nat_le, nat_lt, min, max, Bool, true, false, ◌&&◌, List, [], ◌∷◌, ◌++◌, length, take, drop, position, slice_index, slice_index_or, Option, Some, None, if◌then◌else◌}
 use Rattle.std.specs.Str.{bytes_eq}
 use Rattle.click_packet.specs.Header.{header_good, ttl, with_ttl}
@@ -14,45 +15,46 @@ use Rattle.click_classes.specs.declared.state.State.TheVariants as state
 use Rattle.click_classes.specs.declared.values.entry.Entry.{Entry}
 use Rattle.click_classes.specs.declared.values.pattern.Pattern.{Pattern}
 
--- a count of 64 bits, which stops at its top
+-- a count of 64 bits, which stops at 2^64 - 1
 abbrev pub up_by : ℕ → ℕ → ℕ
 up_by n more = min (n + more) (2 ^ 64 - 1)
 
--- the port after this one, round
+-- the port after this one, or port 0 after the last
 abbrev pub after : ℕ → ℕ → ℕ
 after ports port = if nat_lt (port + 1) ports then port + 1 else 0
 
--- `count` ports from `first` on
+-- `count` consecutive ports, beginning with `first`
 abbrev pub range : ℕ → ℕ → PortRange
 range first count = record { first = first; count = count }
 
--- ---- packets that pass an element, which does the same with a packet that is pushed and with one that was pulled
+-- ---- packets that pass an element: the same for a packet that is pushed and one that was pulled
 
--- the state and the packet after it, and where the packet goes
+-- the state and the packet afterwards, and where the packet goes
 pub record PassEffect : Type 0 where
   pub state : State
   pub packet : Packet
   pub verdict : Verdict
 
--- such a result
+-- an effect with these parts
 abbrev pub passed : State → Packet → Verdict → PassEffect
 passed s p f = record { state = s; packet = p; verdict = f }
 
--- the four bytes from the offset on; 0.0.0.0 where the packet is shorter
+-- the four bytes at the offset, or 0.0.0.0 if the packet is too short
 abbrev pub address_at : ℕ → List ℕ → List ℕ
 address_at offset bytes =
     if nat_le (offset + 4) (length bytes)
     then slice_index bytes offset ∷ slice_index bytes (offset + 1) ∷ slice_index bytes (offset + 2) ∷ slice_index bytes (offset + 3) ∷ []
     else 0 ∷ 0 ∷ 0 ∷ 0 ∷ []
 
--- a time to live less by one; a packet without a header, or with a time to live of 0 or 1, goes aside as it is (RFC 791, section 3.1)
+-- the time to live decremented; without a header, or with a time to live of 0 or 1, the packet goes
+-- to the side output unchanged (RFC 791, section 3.1)
 abbrev pub aged : Packet → Option ℕ → PassEffect
 aged p None = passed state.DecIPTTL p verdict.SideOutput
 aged p (Some hops) =
     if nat_le hops 1 then passed state.DecIPTTL p verdict.SideOutput
     else passed state.DecIPTTL (record p { bytes = with_ttl p.bytes (hops - 1) }) verdict.Forward
 
--- a packet with a header before it; one that would have more than 1,600 bytes with it is dropped
+-- the packet with a header before it; it is dropped if it would have more than 1,600 bytes
 abbrev pub encapsulated : State → List ℕ → Packet → PassEffect
 encapsulated s header p =
     if nat_le (length header + length p.bytes) 1600 then passed s (record p { bytes = header ++ p.bytes }) verdict.Forward
@@ -71,34 +73,35 @@ pass (state.GetIPAddress offset) p = passed (state.GetIPAddress offset) (record 
 pass (state.CheckIPHeader refused) p = passed (state.CheckIPHeader refused) p (if header_good p.bytes refused then verdict.Forward else verdict.SideOutput)
 pass state.DecIPTTL p = aged p (ttl p.bytes)
 pass (state.EtherEncap header) p = encapsulated (state.EtherEncap header) header p
--- no other element passes packets so; what is pushed to an Idle or a Discard is dropped
+-- no other class passes packets in this way; a packet that is pushed to an Idle or a Discard is
+-- dropped
 pass s p = passed s p verdict.Dropped
 
 -- ---- a packet is pushed
 
--- the state and the packet after it, and the outputs that get it, in order
+-- the state and the packet afterwards, and the outputs that get it, in order
 pub record PushEffect : Type 0 where
   pub state : State
   pub packet : Packet
   pub outputs : PortRange
 
--- to `count` outputs from `first` on
+-- the packet goes to `count` outputs, beginning with `first`
 abbrev pub sent : State → Packet → ℕ → ℕ → PushEffect
 sent s p first count = record { state = s; packet = p; outputs = range first count }
 
--- to no output: it was stored or dropped
+-- the packet goes to no output: it was stored or dropped
 abbrev pub to_none : State → Packet → PushEffect
 to_none s p = sent s p 0 0
 
--- output 1, where it is there
+-- output 1, if it exists
 abbrev pub side_output : ℕ → PortRange
 side_output outputs = range 1 (if nat_lt 1 outputs then 1 else 0)
 
--- output 0, and then output 1 where it is there
+-- output 0, and then output 1 if it exists
 abbrev pub both_outputs : ℕ → PortRange
 both_outputs outputs = range 0 (if nat_lt 1 outputs then 2 else 1)
 
--- the outputs that get a packet with this fate when it is pushed
+-- the outputs that get a pushed packet with this verdict
 abbrev pub pushed_to : ℕ → Verdict → PortRange
 pushed_to outputs verdict.Forward = range 0 1
 pushed_to outputs verdict.Copied = both_outputs outputs
@@ -108,45 +111,46 @@ pushed_to outputs verdict.Dropped = range 0 0
 abbrev pub pushed : ℕ → PassEffect → PushEffect
 pushed outputs r = record { state = r.state; packet = r.packet; outputs = pushed_to outputs r.verdict }
 
--- a queue stores the packet last; when it is full it drops it and counts a drop
+-- a queue appends the packet; if it is full, it drops the packet and counts a drop
 abbrev pub queued : PacketList → ℕ → ℕ → Packet → PushEffect
 queued q drops highest p =
     if length q.packets == q.capacity
     then to_none (state.Queue q (up_by drops 1) highest) p
     else to_none (state.Queue (record q { packets = q.packets ++ p ∷ [] }) drops (max (length q.packets + 1) highest)) p
 
--- a full FrontDropQueue drops its first packet, counts a drop, and stores the packet last; without room for any it drops what comes
+-- a full FrontDropQueue drops its first packet, counts a drop, and appends the new one; with room
+-- for no packet it drops the new one
 abbrev pub front_dropped : List Packet → PacketList → ℕ → ℕ → Packet → PushEffect
 front_dropped [] q drops highest p = to_none (state.FrontDropQueue q (up_by drops 1) highest) p
 front_dropped (first ∷ rest) q drops highest p = to_none (state.FrontDropQueue (record q { packets = rest ++ p ∷ [] }) (up_by drops 1) highest) p
 
--- a FrontDropQueue stores the packet last; when it is full it drops its first for it
+-- a FrontDropQueue appends the packet; if it is full, it first drops its oldest one
 abbrev pub front_queued : PacketList → ℕ → ℕ → Packet → PushEffect
 front_queued q drops highest p =
     if length q.packets == q.capacity
     then front_dropped q.packets q drops highest p
     else to_none (state.FrontDropQueue (record q { packets = q.packets ++ p ∷ [] }) drops (max (length q.packets + 1) highest)) p
 
--- to that output, or to none
+-- the packet goes to that output, or to none
 abbrev pub switched : State → Option ℕ → Packet → PushEffect
 switched s None p = to_none s p
 switched s (Some output) p = sent s p output 1
 
--- to the entry's output, with its gateway as the destination if it has one
+-- the packet, with the gateway as its destination if there is one
 abbrev pub via : Packet → Option (List ℕ) → Packet
 via p None = p
 via p (Some gateway) = record p { destination = gateway }
 
--- to the output of the entry that was found, or to none
+-- the packet goes to the output of the entry that was found, or to none
 abbrev pub routed : State → Option Entry → Packet → PushEffect
 routed s None p = to_none s p
 routed s (Some e) p = sent s (via p e.gateway) e.output 1
 
--- a Suppressor lets packets pass at this port
+-- packets pass a Suppressor at this port
 abbrev pub is_active : List Bool → ℕ → Bool
 is_active active port = slice_index_or active port false
 
--- the output of the first pattern that matches; there are 256 patterns at most
+-- the output of the first pattern that matches, among at most 256 patterns
 abbrev pub classified : List Pattern → List ℕ → Option ℕ
 classified patterns bytes = position (λ q. matches q bytes) (take 256 patterns)
 
@@ -159,13 +163,13 @@ act outputs (state.Tee n) input p = sent (state.Tee n) p 0 outputs
 act outputs (state.Suppressor active) input p = if is_active active input then sent (state.Suppressor active) p input 1 else to_none (state.Suppressor active) p
 act outputs (state.Classifier patterns) input p = switched (state.Classifier patterns) (classified patterns p.bytes) p
 act outputs (state.StaticIPLookup entries) input p = routed (state.StaticIPLookup entries) (route entries p.destination) p
--- it passes, or is dropped
+-- all other classes pass the packet or drop it
 act outputs s input p = pushed outputs (pass s p)
 
 -- ---- a packet is pulled
 
--- the inputs that a pull asks in order up to the first packet, fixed as the pull begins: `count` of them from `first` on, and from 0 on after the
--- last of `inputs`
+-- The inputs that a pull asks in order, up to the first packet, determined when the pull begins:
+-- `count` of them, beginning with `first`. Input 0 follows the last of `inputs`.
 unfoldable pub tries : ℕ → State → ℕ → PortRange
 tries inputs (state.PullSwitch None) output = range 0 0
 tries inputs (state.PullSwitch (Some input)) output = range input 1
@@ -184,10 +188,11 @@ tries inputs (state.GetIPAddress offset) output = range 0 1
 tries inputs (state.CheckIPHeader refused) output = range 0 1
 tries inputs state.DecIPTTL output = range 0 1
 tries inputs (state.EtherEncap header) output = range 0 1
--- a queue gives what it has stored, and an Idle nothing; no other class has a pull output
+-- a queue returns a packet that it has stored, and an Idle returns nothing; no other class has a
+-- pull output
 tries inputs s output = range 0 0
 
--- what an element gives out of itself: a packet, and its state after that
+-- a packet that an element returns without a pull of its own, and the state afterwards
 pub record Stored : Type 0 where
   pub packet : Packet
   pub state : State
@@ -201,16 +206,17 @@ stored (state.Queue q drops highest) = first_of q.packets (λ rest. state.Queue 
 stored (state.FrontDropQueue q drops highest) = first_of q.packets (λ rest. state.FrontDropQueue (record q { packets = rest }) drops highest)
 stored s = None
 
--- a source may give one more packet
+-- a source may emit one more packet
 abbrev pub is_below : Option ℕ → ℕ → Bool
 is_below None count = true
 is_below (Some limit) count = nat_lt count limit
 
--- a packet with nothing set but its bytes
+-- a packet with these bytes, paint 0 and destination 0.0.0.0
 abbrev pub fresh_packet : List ℕ → Packet
 fresh_packet bytes = record { bytes = bytes; paint = 0; destination = 0 ∷ 0 ∷ 0 ∷ 0 ∷ [] }
 
--- the packet that a source makes next, while it is active and below its limit, which it counts; bytes that no packet holds make none
+-- The packet that a source emits next, if it is active and below its limit, and the state that
+-- counts it. Bytes that are too long for a packet are not emitted.
 unfoldable pub emission : State → Option Stored
 emission (state.InfiniteSource bytes limit burst active count) =
     if active && is_below limit count && nat_le (length bytes) 1600
@@ -218,23 +224,25 @@ emission (state.InfiniteSource bytes limit burst active count) =
     else None
 emission s = None
 
--- how many packets a source makes in one run of its task
+-- the maximum number of packets that a source emits when its task runs once
 abbrev pub burst_of : State → ℕ
 burst_of (state.InfiniteSource bytes limit burst active count) = burst
 burst_of s = 0
 
--- a packet was pulled through an input: the state and the packet after it, the outputs that get it first, and whether it is then the answer
+-- the effect of a packet that was pulled through an input: the state and the packet afterwards, the
+-- outputs that get copies first, and whether the pull returns the packet
 pub record PullEffect : Type 0 where
   pub state : State
   pub packet : Packet
   pub copies : PortRange
   pub answers : Bool
 
--- just the answer
+-- the pull returns the packet, and no output gets a copy
 abbrev pub answered : State → Packet → PullEffect
 answered s p = record { state = s; packet = p; copies = range 0 0; answers = true }
 
--- the outputs that get a packet with this fate when it was pulled, and whether it is the answer
+-- the outputs that get copies of a pulled packet with this verdict, and whether the pull returns
+-- the packet
 abbrev pub copied_to : ℕ → Verdict → PortRange
 copied_to outputs verdict.Forward = range 0 0
 copied_to outputs verdict.Copied = side_output outputs
@@ -256,12 +264,12 @@ gives inputs outputs (state.RoundRobinSched next) input p = answered (state.Roun
 gives inputs outputs state.PrioSched input p = answered state.PrioSched p
 gives inputs outputs (state.Suppressor active) input p = answered (state.Suppressor active) p
 gives inputs outputs (state.PullTee n) input p = record { state = state.PullTee n; packet = p; copies = range 1 (outputs - 1); answers = true }
--- it passes, goes aside, or is dropped
+-- all other classes pass the packet, push it to the side output, or drop it
 gives inputs outputs s input p = pulled outputs (pass s p)
 
 -- ---- devices
 
--- a source, or a sink, of that device
+-- whether the element is the FromDevice, or the ToDevice, of that device
 abbrev pub is_source : List ℕ → State → Bool
 is_source name (state.FromDevice device) = bytes_eq device name
 is_source name s = false

@@ -1,4 +1,4 @@
--- StaticIPLookup's table (Click element reference, "StaticIPLookup").
+-- The table of a StaticIPLookup (Click element reference, "StaticIPLookup").
 use Rattle.std.specs.Prelude.{ℕ, ◌==◌, List, [], ◌∷◌, ◌++◌, length, Bool, ◌&&◌, slice_index_or, Option, Some, None, Result, Ok, Err, if◌then◌else◌}
 use Rattle.std.specs.List.{list_any}
 use Rattle.std.specs.Str.{bytes_eq}
@@ -15,7 +15,7 @@ word words k = slice_index_or words k []
 abbrev pub entry_of : Prefix → Option (List ℕ) → ℕ → Entry
 entry_of p gateway n = record { prefix = p; gateway = gateway; output = n }
 
--- a prefix, maybe a gateway, and an output
+-- the entry that words spell: a prefix, optionally a gateway, and an output
 unfoldable pub entry : List (List ℕ) → Result Entry ArgFault
 entry words =
     if length words == 2 then (prefix (word words 0) >>= λ p. number_in 0 255 (word words 1) >>= λ n. Ok (entry_of p None n))
@@ -26,15 +26,15 @@ entry words =
 abbrev pub same_prefix : Prefix → Prefix → Bool
 same_prefix p q = (p.len == q.len) && bytes_eq p.network q.network
 
--- an entry of the table has the prefix
+-- an entry of the table has this prefix
 abbrev pub has_prefix : List Entry → Prefix → Bool
 has_prefix es p = list_any (λ e. same_prefix e.prefix p) es
 
--- a table with a further entry, whose prefix it must not have
+-- the table with one more entry, whose prefix must be new
 abbrev pub with_entry : List Entry → Entry → Result (List Entry) ArgFault
 with_entry es e = if has_prefix es e.prefix then Err fault.BadEntry else Ok (es ++ e ∷ [])
 
--- a table with the entries that these words spell
+-- the table with the entries that these words spell
 abbrev pub table : List Entry → List (List (List ℕ)) → Result (List Entry) ArgFault
 table es [] = Ok es
 table es (words ∷ more) = entry words >>= λ e. with_entry es e >>= λ longer. table longer more

@@ -1,9 +1,9 @@
--- What a fault of arguments is called.
+-- The texts of the faults of arguments.
 use Rattle.std.specs.Prelude.{ℕ, List, codes}
 use Rattle.click_classes.specs.declared.fault.ArgFault.{ArgFault}
 use Rattle.click_classes.specs.declared.fault.ArgFault.TheVariants as fault
 
--- its number and its name, as operators see them
+-- the number and the name of a fault, as operators see them
 abbrev pub kind_text : ArgFault → List ℕ
 kind_text fault.NoMemory = codes "7 NoMemory"
 kind_text fault.ArgumentCount = codes "21 ArgumentCount"

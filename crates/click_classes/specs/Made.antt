@@ -1,5 +1,5 @@
--- What `make` answers: an element's first state by its arguments, the number of arguments first, then the arguments in order, or the first fault of them
--- (Click element reference).
+-- The result of `make`: the first state of an element, or the first fault of its arguments. Their
+-- number is tested first, and then the arguments in order (Click element reference).
 use Rattle.std.specs.Prelude.{ℕ, ◌-◌, ◌/◌, ◌%◌, ◌^◌, ◌==◌, List, [], ◌∷◌, ◌++◌, length, true, ◌&&◌, nat_le, slice_get, slice_index_or, replicate, Option, Some, None, Result, Ok, Err, if◌then◌else◌, ◌≡◌, map, MatchBool}
 use Rattle.click_classes.specs.declared.fault.ArgFault.{ArgFault}
 use Rattle.click_classes.specs.declared.fault.ArgFault.TheVariants as fault
@@ -19,15 +19,15 @@ use Rattle.click_text.specs.Words.{AreWords}
 use Rattle.click_base.specs.declared.class.Class.{Class}
 use Rattle.click_base.specs.declared.class.Class.TheVariants as class
 
--- a class that takes from `least` to `most` arguments
+-- the result for a class that takes from `least` to `most` arguments
 abbrev pub taking : {A : Type 0} → ℕ → ℕ → List (List ℕ) → Result A ArgFault → Result A ArgFault
 taking least most args r = if nat_le least (length args) && nat_le (length args) most then r else Err fault.ArgumentCount
 
--- the argument at a place
+-- the argument at index k
 abbrev pub argument_at : List (List ℕ) → ℕ → List ℕ
 argument_at args k = slice_index_or args k []
 
--- an argument that may be left out, or a value in its place
+-- the value of an argument, or a default if it is left out
 abbrev pub given_or : {A : Type 0} → A → (List ℕ → Result A ArgFault) → Option (List ℕ) → Result A ArgFault
 given_or default read None = Ok default
 given_or default read (Some bytes) = read bytes
@@ -39,11 +39,11 @@ optional args k default read = given_or default read (slice_get args k)
 unfoldable pub without_arguments : State → List (List ℕ) → Result State ArgFault
 without_arguments s args = taking 0 0 args (Ok s)
 
--- a Suppressor all of whose inputs are active
+-- a Suppressor with all inputs active
 abbrev pub suppressor : State
 suppressor = state.Suppressor (replicate 16 true)
 
--- how many packets a queue has room for
+-- the number of packets that a queue has room for
 unfoldable pub capacity : List (List ℕ) → Result ℕ ArgFault
 capacity args = taking 0 1 args (optional args 0 1000 (number_in 1 10000))
 
@@ -56,7 +56,7 @@ queue args = capacity args >>= λ n. Ok (state.Queue (empty n) 0 0)
 unfoldable pub front_drop_queue : List (List ℕ) → Result State ArgFault
 front_drop_queue args = capacity args >>= λ n. Ok (state.FrontDropQueue (empty n) 0 0)
 
--- the port of a switch, None for -1
+-- the port of a switch; None for -1
 unfoldable pub switch_port : List (List ℕ) → Result (Option ℕ) ArgFault
 switch_port args = taking 0 1 args (optional args 0 (Some 0) (number_or_minus_one 255))
 
@@ -66,7 +66,7 @@ switch args = switch_port args >>= λ k. Ok (state.Switch k)
 unfoldable pub pull_switch : List (List ℕ) → Result State ArgFault
 pull_switch args = switch_port args >>= λ k. Ok (state.PullSwitch k)
 
--- how many outputs there have to be, if that is said
+-- the required number of outputs, if it is given
 unfoldable pub copies : List (List ℕ) → Result (Option ℕ) ArgFault
 copies args = taking 0 1 args (optional args 0 None (λ bytes. some (number_in 1 256 bytes)))
 
@@ -76,7 +76,7 @@ tee args = copies args >>= λ n. Ok (state.Tee n)
 unfoldable pub pull_tee : List (List ℕ) → Result State ArgFault
 pull_tee args = copies args >>= λ n. Ok (state.PullTee n)
 
--- a number up to a bound as the only argument
+-- a number up to a limit, as the only argument
 unfoldable pub only_number : ℕ → List (List ℕ) → Result ℕ ArgFault
 only_number high args = taking 1 1 args (number_in 0 high (argument_at args 0))
 
@@ -106,7 +106,7 @@ ether_encap args = taking 3 3 args
     ethernet (argument_at args 2) >>= λ destination.
     Ok (state.EtherEncap (ether_header t source destination)))
 
--- the name of a device as the only argument
+-- the name of a device, as the only argument
 unfoldable pub device : List (List ℕ) → Result (List ℕ) ArgFault
 device args = taking 1 1 args (if is_device (argument_at args 0) then Ok (argument_at args 0) else Err fault.BadText)
 
@@ -116,30 +116,32 @@ from_device args = device args >>= λ d. Ok (state.FromDevice d)
 unfoldable pub to_device : List (List ℕ) → Result State ArgFault
 to_device args = device args >>= λ d. Ok (state.ToDevice d)
 
--- Classifier's first state by the words of its arguments
+-- the first state of a Classifier, by the words of its arguments
 unfoldable pub classifier : List (List (List ℕ)) → Result State ArgFault
 classifier args = each pattern args >>= λ ps. Ok (state.Classifier ps)
 
--- StaticIPLookup's first state by the words of its arguments
+-- the first state of a StaticIPLookup, by the words of its arguments
 unfoldable pub static_ip_lookup : List (List (List ℕ)) → Result State ArgFault
 static_ip_lookup args = table [] args >>= λ es. Ok (state.StaticIPLookup es)
 
--- up to 64 addresses, as the words of an argument
+-- up to 64 addresses, from the words of one argument
 unfoldable pub addresses : List (List ℕ) → Result (List (List ℕ)) ArgFault
 addresses words = if nat_le (length words) 64 then each address words else Err fault.OutOfRange
 
--- CheckIPHeader's first state by the words of its arguments
+-- the first state of a CheckIPHeader, by the words of its arguments
 unfoldable pub check_ip_header : List (List (List ℕ)) → Result State ArgFault
 check_ip_header args =
     (if length args == 0 then Ok [] else addresses (slice_index_or args 0 [])) >>= λ rs. Ok (state.CheckIPHeader rs)
 
--- the bytes of InfiniteSource's packets: those that an argument stands for, if it is well quoted, or 64 zeros
+-- the bytes of an InfiniteSource's packets: those that the argument stands for, if its quoting is
+-- right, or 64 zeros without an argument
 abbrev pub source_bytes : Option (Option (List ℕ)) → Result (List ℕ) ArgFault
 source_bytes None = Ok (replicate 64 0)
 source_bytes (Some None) = Err fault.BadText
 source_bytes (Some (Some bytes)) = if nat_le (length bytes) 1600 then Ok bytes else Err fault.OutOfRange
 
--- InfiniteSource's first state by its arguments and what the first stands for
+-- the first state of an InfiniteSource, by its arguments and the bytes that the first one stands
+-- for
 unfoldable pub infinite_source : Option (Option (List ℕ)) → List (List ℕ) → Result State ArgFault
 infinite_source first args =
     source_bytes first >>= λ bytes.
@@ -148,24 +150,24 @@ infinite_source first args =
     optional args 3 true truth >>= λ active.
     Ok (state.InfiniteSource bytes limit burst active 0)
 
--- by the words of the arguments, whose number is tested first
+-- the result is determined by the words of the arguments, whose number is tested first
 abbrev pub ByWords : ℕ → ℕ → (List (List (List ℕ)) → Result State ArgFault) → List (List ℕ) → Result State ArgFault → Type 0
 ByWords least most first args r = MatchBool (nat_le least (length args) && nat_le (length args) most)
     ((words : List (List (List ℕ))) × AllZip AreWords args words × (r ≡ first words))
     (r ≡ Err fault.ArgumentCount)
 
--- what an argument stands for, if it is there
+-- the bytes that an argument stands for, if it is given
 abbrev pub FirstStandsFor : Option (List ℕ) → Option (Option (List ℕ)) → Type 0
 FirstStandsFor None first = first ≡ None
 FirstStandsFor (Some argument) first = (bytes : Option (List ℕ)) × StandsFor argument bytes × (first ≡ Some bytes)
 
--- by what the first argument stands for
+-- the result is determined by the bytes that the first argument stands for
 abbrev pub ByFirst : ℕ → (Option (Option (List ℕ)) → List (List ℕ) → Result State ArgFault) → List (List ℕ) → Result State ArgFault → Type 0
 ByFirst most state_of args r = MatchBool (nat_le 0 (length args) && nat_le (length args) most)
     ((first : Option (Option (List ℕ))) × FirstStandsFor (slice_get args 0) first × (r ≡ state_of first args))
     (r ≡ Err fault.ArgumentCount)
 
--- an element of the class with these arguments begins so
+-- the first state, or the first fault, of an element of this class with these arguments
 abbrev pub IsFresh : Class → List (List ℕ) → Result State ArgFault → Type 0
 IsFresh class.Queue args r = r ≡ queue args
 IsFresh class.FrontDropQueue args r = r ≡ front_drop_queue args
@@ -198,7 +200,7 @@ IsFresh class.InfiniteSource args r = ByFirst 4 infinite_source args r
 IsFresh class.FromDevice args r = r ≡ from_device args
 IsFresh class.ToDevice args r = r ≡ to_device args
 
--- an element of the class with that configuration string begins so
+-- the first state, or the first fault, of an element of this class with this configuration string
 pub record IsMade (class : Class) (text : List ℕ) (r : Result State ArgFault) : Type 0 where
   pub spans : List Span
   pub cut : AreArguments text spans

@@ -1,4 +1,5 @@
--- The ports of the classes: their kinds and how many there may be (Click element reference).
+-- The ports of the classes: push, pull or agnostic, and how many there may be (Click element
+-- reference).
 use Rattle.std.specs.Prelude.{ℕ, ◌==◌, Bool, true, false, if◌then◌else◌, ◌+◌, List, [], ◌∷◌, length, Option, Some, None, min, max}
 use Rattle.click_base.specs.declared.class.Class.{Class}
 use Rattle.click_base.specs.declared.class.Class.TheVariants as class
@@ -12,7 +13,7 @@ use Rattle.click_classes.specs.declared.values.entry.Entry.{Entry}
 use Rattle.click_classes.specs.declared.state.State.{State}
 use Rattle.click_classes.specs.declared.state.State.TheVariants as state
 
--- the codes of the inputs, of the first output and of the outputs after it
+-- the codes of the inputs, of output 0, and of the further outputs
 abbrev pub row : Code → Code → Code → Codes
 row i o f = record { inputs = i; output = o; further = f }
 
@@ -54,7 +55,7 @@ abbrev pub code : Class → Side → ℕ → Code
 code c side.Input port = (codes_of c).inputs
 code c side.Output port = if port == 0 then (codes_of c).output else (codes_of c).further
 
--- packets pass from every input to every output, but for Idle and Suppressor
+-- packets pass from every input to every output, except in Idle and Suppressor
 abbrev pub passes : Class → ℕ → ℕ → Bool
 passes class.Idle i o = false
 passes class.Suppressor i o = i == o
@@ -64,17 +65,17 @@ passes _ i o = true
 abbrev pub ports : ℕ → ℕ → ℕ → ℕ → Counts
 ports a b c d = record { inputs = (a, b); outputs = (c, d); equal = false }
 
--- how many ports a switch needs that uses this one
+-- the number of ports that a switch needs at least, if it uses this port
 abbrev pub at_least : Option ℕ → ℕ
 at_least None = 0
 at_least (Some k) = k + 1
 
--- as many as an argument says, else 1 to 256
+-- exactly as many as the argument says, or else 1 to 256
 abbrev pub up_to_256 : Option ℕ → ℕ × ℕ
 up_to_256 None = (1, 256)
 up_to_256 (Some n) = (n, n)
 
--- how many outputs the entries of a table name
+-- the number of outputs that the entries of a table need
 abbrev pub outputs_for : List Entry → ℕ
 outputs_for [] = 0
 outputs_for (e ∷ es) = max (e.output + 1) (outputs_for es)
@@ -101,7 +102,7 @@ counts (state.Paint c) = ports 1 1 1 1
 counts (state.PaintTee c) = ports 1 1 1 2
 counts (state.Strip n) = ports 1 1 1 1
 counts (state.CheckLength n) = ports 1 1 1 2
--- 65,535 is the greatest number that a count can tell, and no element has so many patterns
+-- 65,535 is the greatest number of ports that a count can hold; no element has as many patterns
 counts (state.Classifier ps) = ports 1 1 (min (length ps) 65535) (min (length ps) 65535)
 counts (state.GetIPAddress n) = ports 1 1 1 1
 counts (state.StaticIPLookup es) = ports 1 1 (outputs_for es) 256

@@ -1,4 +1,5 @@
--- An element's state without what packets change: what its arguments and its handlers set.
+-- The settings of an element: the part of its state that arguments and handlers set, and packets do
+-- not change.
 use Rattle.std.specs.Prelude.{[]}
 use Rattle.click_classes.specs.PacketList.{PacketList}
 use Rattle.click_classes.specs.declared.state.State.{State}

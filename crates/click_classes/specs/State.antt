@@ -1,4 +1,4 @@
--- An element's state: its class.
+-- The class of an element's state.
 use Rattle.click_base.specs.declared.class.Class.{Class}
 use Rattle.click_base.specs.declared.class.Class.TheVariants as is
 use Rattle.click_classes.specs.declared.state.State.{State}

@@ -1,4 +1,4 @@
--- Numbers of ports that an element may have.
+-- The numbers of ports that an element may have.
 use Rattle.std.specs.Prelude.{◌≡◌, ℕ, ◌≤◌, true}
 use Rattle.click_classes.specs.declared.ports.Counts.{Counts}
 

@@ -1,4 +1,4 @@
--- The values that arguments spell (Click element reference), as functions on an argument's bytes.
+-- The values that arguments spell (Click element reference), as functions of an argument's bytes.
 use Rattle.std.specs.Prelude.{ℕ, zero, suc, ◌+◌, ◌-◌, ◌*◌, ◌/◌, ◌^◌, ◌==◌, List, [], ◌∷◌, length, take, drop, Bool, true, false, ◌||◌, ◌&&◌, nat_lt, nat_le, slice_index, codes, position, unwrap_or, Option, Some, None, option_map, option_and_then, Result, Ok, Err, if◌then◌else◌}
 use Rattle.std.specs.Option.{ok_or}
 use Rattle.std.specs.List.{list_all}
@@ -11,11 +11,11 @@ use Rattle.click_classes.specs.declared.values.groups.Group.{Group}
 use Rattle.click_classes.specs.declared.values.groups.Group.TheVariants as kind
 use Rattle.click_classes.specs.declared.values.prefix.Prefix.{Prefix}
 
--- a decimal digit, or a letter from A to F of either case
+-- a decimal digit, or a letter from A to F in either case
 abbrev pub hex_digit : ℕ → Bool
 hex_digit b = digit b || (nat_le 65 b && nat_le b 70) || (nat_le 97 b && nat_le b 102)
 
--- what a digit is worth
+-- the value of a digit
 abbrev pub digit_value : ℕ → ℕ
 digit_value b = unwrap_or (hex_digit_value b) 0
 
@@ -23,7 +23,7 @@ digit_value b = unwrap_or (hex_digit_value b) 0
 abbrev pub is_run : (ℕ → Bool) → List ℕ → Bool
 is_run test bytes = nat_lt 0 (length bytes) && list_all test bytes
 
--- the number that digits spell in a base, after one that was read before them
+-- the number that digits spell in a base, if n was read before them
 abbrev pub spelled : ℕ → ℕ → List ℕ → ℕ
 spelled base n [] = n
 spelled base n (d ∷ ds) = spelled base (base * n + digit_value d) ds
@@ -31,11 +31,11 @@ spelled base n (d ∷ ds) = spelled base (base * n + digit_value d) ds
 abbrev pub at_most : ℕ → ℕ → Option ℕ
 at_most high n = if nat_le n high then Some n else None
 
--- what decimal digits alone spell, up to a bound
+-- the number that decimal digits spell, if it is at most `high`
 unfoldable pub decimal_in : ℕ → List ℕ → Option ℕ
 decimal_in high bytes = if is_run digit bytes then at_most high (spelled 10 0 bytes) else None
 
--- what hexadecimal digits alone spell, up to a bound
+-- the number that hexadecimal digits spell, if it is at most `high`
 unfoldable pub hexadecimal_in : ℕ → List ℕ → Option ℕ
 hexadecimal_in high bytes = if is_run hex_digit bytes then at_most high (spelled 16 0 bytes) else None
 
@@ -58,11 +58,11 @@ within low high (Some n) = if nat_le low n && nat_le n high then Ok n else Err f
 unfoldable pub number_in : ℕ → ℕ → List ℕ → Result ℕ ArgFault
 number_in low high bytes = within low high (number bytes)
 
--- the number that decimal digits alone spell
+-- the number that decimal digits spell
 abbrev pub digits : List ℕ → Option ℕ
 digits bytes = if is_run digit bytes then Some (spelled 10 0 bytes) else None
 
--- a number from low to high, in decimal digits alone
+-- a number from low to high, in decimal digits only
 unfoldable pub decimal_number : ℕ → ℕ → List ℕ → Result ℕ ArgFault
 decimal_number low high bytes = within low high (digits bytes)
 
@@ -70,7 +70,7 @@ abbrev pub some : Result ℕ ArgFault → Result (Option ℕ) ArgFault
 some (Ok n) = Ok (Some n)
 some (Err f) = Err f
 
--- a number up to a bound, or `-1`, which is None
+-- a number from 0 to high, or `-1`, which is None
 unfoldable pub number_or_minus_one : ℕ → List ℕ → Result (Option ℕ) ArgFault
 number_or_minus_one high bytes = if bytes_eq bytes (codes "-1") then Ok None else some (number_in 0 high bytes)
 
@@ -85,7 +85,7 @@ unfoldable pub group : Group → List ℕ → Option ℕ
 group kind.Octet bytes = if nat_le (length bytes) 3 then decimal_in 255 bytes else None
 group kind.Pair bytes = if nat_le (length bytes) 2 then hexadecimal_in 255 bytes else None
 
--- so many groups with a separator between two of them
+-- n groups with a separator between two of them
 unfoldable pub separated : Group → ℕ → ℕ → List ℕ → Option (List ℕ)
 separated k separator zero bytes = None
 separated k separator (suc zero) bytes = option_map (λ x. x ∷ []) (group k bytes)
@@ -101,11 +101,11 @@ address bytes = ok_or (separated kind.Octet 46 4 bytes) fault.BadAddress
 unfoldable pub ethernet : List ℕ → Result (List ℕ) ArgFault
 ethernet bytes = ok_or (separated kind.Pair 58 6 bytes) fault.BadAddress
 
--- the first bits of a byte, with the others 0
+-- the byte with only its first bits kept
 unfoldable pub first_bits : ℕ → ℕ → ℕ
 first_bits bits b = let unit = 2 ^ (8 - bits) in b / unit * unit
 
--- an address with the bits past a length cleared
+-- the address with the bits after the first `len` cleared
 unfoldable pub cleared : ℕ → List ℕ → List ℕ
 cleared len a =
     first_bits len (slice_index a 0) ∷ first_bits (len - 8) (slice_index a 1)
@@ -120,12 +120,12 @@ abbrev pub whole : Result (List ℕ) ArgFault → Result Prefix ArgFault
 whole (Ok a) = Ok (record { network = a; len = 32 })
 whole (Err f) = Err f
 
--- an address with its length after a `/`, at the place of that, or alone
+-- an address with a length after the `/`, which is at this index, or an address alone
 abbrev pub prefix_at : List ℕ → Option ℕ → Result Prefix ArgFault
 prefix_at bytes None = whole (address bytes)
 prefix_at bytes (Some at) = prefix_of (address (take at bytes)) (decimal_in 32 (drop (at + 1) bytes))
 
--- an address, `/` and a length of 0 to 32, or an address alone, which has length 32
+-- an address, `/` and a length of 0 to 32, or an address alone, whose length is 32
 unfoldable pub prefix : List ℕ → Result Prefix ArgFault
 prefix bytes = prefix_at bytes (position (λ b. b == 47) bytes)
 
@@ -133,6 +133,6 @@ prefix bytes = prefix_at bytes (position (λ b. b == 47) bytes)
 abbrev pub device_byte : ℕ → Bool
 device_byte b = name_byte b || (b == 46) || (b == 58) || (b == 45)
 
--- the name of a device
+-- whether the bytes are the name of a device
 unfoldable pub is_device : List ℕ → Bool
 is_device bytes = nat_le 1 (length bytes) && nat_le (length bytes) 64 && list_all device_byte bytes

@@ -12,7 +12,7 @@ use click_text::words;
 use std::alloc::Global;
 use std::marker::Model;
 
-/// Arguments as spans of the text that they stand in.
+/// Arguments, as spans of the text that contains them.
 #[derive(Drop)]
 pub struct Arguments<'a> {
     text: &'a [u8],
@@ -35,28 +35,28 @@ impl<'a> Arguments<'a> {
     ghost use Rattle.click_classes.specs.declared.fault.ArgFault.TheVariants.{NoMemory};
     ghost use Rattle.click_classes.specs.Made.{only_number};
 
-    /// The arguments at these places of a text.
+    /// Returns the arguments with these spans of a text.
     pub fn of(text: &'a [u8], spans: &'a [Span]) -> Arguments<'a>
         ensures { result ≡ map (bytes_at text.now) spans.now }
     {
         Arguments { text, spans }
     }
 
-    /// How many there are.
+    /// Returns the number of arguments.
     pub fn len(&self) -> usize
         ensures { result ≡ length self.now }
     {
         self.spans.len()
     }
 
-    /// Whether there are from `least` to `most`.
+    /// Returns whether there are `least` to `most` arguments.
     pub fn are(&self, least: usize, most: usize) -> bool
         ensures { result ≡ (nat_le least (length self.now) && nat_le (length self.now) most) }
     {
         least <= self.spans.len() && self.spans.len() <= most
     }
 
-    /// The bytes of the argument at that place.
+    /// Returns the bytes of the argument at this index, which must exist.
     pub fn at(&self, place: usize) -> &'a [u8]
         requires { place < length self.now }
         ensures { result.now ≡ slice_index_or self.now place [] }
@@ -65,7 +65,7 @@ impl<'a> Arguments<'a> {
         spans[place].of(self.text)
     }
 
-    /// The bytes of the argument at that place, if there is one.
+    /// Returns the bytes of the argument at this index, if there is one.
     pub fn get(&self, place: usize) -> Option<&'a [u8]>
         ensures { option_copied result ≡ slice_get self.now place }
     {
@@ -76,7 +76,9 @@ impl<'a> Arguments<'a> {
         }
     }
 
-    /// The only argument, a number up to a bound.
+    /// Returns the only argument, a number from 0 to `high`.
+    ///
+    /// Fails with `ArgumentCount` unless there is exactly one argument.
     #[tactic(auto, unfolding(crate::specs::Made::only_number))]
     pub fn only_number(&self, high: u64) -> Result<u64, ArgFault>
         ensures value { result ≡ only_number high self.now }
@@ -89,7 +91,7 @@ impl<'a> Arguments<'a> {
         }
     }
 
-    /// The words of each argument.
+    /// Returns the words of each argument, or fails with out of memory.
     pub fn words(&self, alloc: Global) -> Result<Sequence<Sequence<Sequence<u8>>>, ArgFault>
         ensures ok { IfOk result (λ all. AllZip AreWords self.now all) }
         ensures err { IfErr result (λ f. f ≡ NoMemory) }

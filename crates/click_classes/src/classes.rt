@@ -45,7 +45,7 @@ use click_base::Class;
 use click_text::arguments;
 use std::alloc::Global;
 
-/// The first state of an element of the class, or the first fault of its arguments.
+/// Returns the first state of an element with these arguments, or their first fault.
 pub fn first_state(alloc: Global, class: Class, arguments: &Arguments) -> Result<State, ArgFault>
     ensures { OrNoMemory (IsFresh class arguments.now) result }
 {
@@ -83,12 +83,13 @@ pub fn first_state(alloc: Global, class: Class, arguments: &Arguments) -> Result
     }
 }
 
-/// The first state of an element of the class with that configuration string, or the first fault of its arguments: their
-/// number first, and then the arguments from left to right.
+/// Returns the first state of an element with this configuration string, or the first fault.
+///
+/// The number of arguments is tested first, and then the arguments from left to right.
 pub fn make(alloc: Global, class: Class, text: &[u8]) -> Result<State, ArgFault>
-    // What is answered is so, or memory ran out.
+    // The result is the one that the definition states, or out of memory.
     ensures made { OrNoMemory (IsMade class text.now) result }
-    // What is so is answered, or memory ran out.
+    // Conversely, the result that the definition states is returned, or out of memory.
     ensures only { (r : Result State ArgFault) → IsMade class text.now r → (result ≡ r) ⊎ (result ≡ Err NoMemory) }
 {
     let spans = arguments(alloc, text)?;

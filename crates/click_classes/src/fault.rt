@@ -1,4 +1,4 @@
-//! Why an element's arguments are refused.
+//! The faults of an element's arguments.
 
 ghost use Rattle.std.specs.Prelude.{◌≡◌};
 ghost use Rattle.click_classes.specs.FaultText.{kind_text};
@@ -7,28 +7,28 @@ use click_text::syntax::TextFault;
 use std::alloc::AllocError;
 use thiserror::Error;
 
-/// A fault of an element's arguments. It prints as its number and its name.
+/// A fault of an element's arguments. It is printed as its number and its name.
 #[derive(Clone, Copy, Debug, PartialEq, Eq, Error)]
 #[error("{}", self.text())]
 pub enum ArgFault {
-    /// Memory ran out.
+    /// Out of memory.
     NoMemory,
-    /// The class does not take that many arguments.
+    /// The class does not take this number of arguments.
     ArgumentCount,
-    /// A number or a truth value is spelled as none.
+    /// The bytes spell no number, or no truth value.
     BadNumber,
-    /// A device's name has a byte that no name has, or no byte, or too many; or a quote is faulty.
+    /// The name of a device has a wrong byte or a wrong length; or a quote is faulty.
     BadText,
-    /// A number is outside the range that the class takes, or a list is too long.
+    /// A number is outside the range that the class allows, or a list is too long.
     OutOfRange,
-    /// An address, a prefix or an Ethernet address is spelled as none.
+    /// The bytes spell no address, no prefix or no Ethernet address.
     BadAddress,
-    /// A pattern or an entry of a table is spelled as none, or its prefix is that of an earlier one.
+    /// The words spell no pattern or no entry of a table; or two entries have the same prefix.
     BadEntry,
 }
 
 impl ArgFault {
-    /// Its number and its name, as operators see them.
+    /// Returns the number and the name of the fault, as operators see them.
     pub fn text(self) -> &'static str
         ensures { result.now ≡ kind_text self }
     {
@@ -55,7 +55,7 @@ impl From<AllocError> for ArgFault {
     }
 }
 
-// A configuration string's text that was parsed leaves no other fault.
+// The functions of click_text that this crate calls have one error only: out of memory.
 impl From<TextFault> for ArgFault {
     ghost use Rattle.std.specs.Prelude.{◌≡◌};
     ghost use Rattle.click_classes.specs.declared.fault.ArgFault.TheVariants.{NoMemory};

@@ -1,4 +1,4 @@
-//! What an element of a new configuration takes over from the one before.
+//! What an element of a new configuration takes over from an old one.
 
 ghost use Rattle.std.specs.Prelude.{◌≡◌, length, true};
 ghost use Rattle.click_classes.specs.TakeOver.{filled, left_over, kept_position, taken_over};
@@ -6,7 +6,9 @@ ghost use Rattle.click_classes.specs.TakeOver.{filled, left_over, kept_position,
 use crate::packet_list::PacketList;
 use crate::state::State;
 
-/// A queue takes the first packets of an old one, which keeps its own where that is asked. Those that it has no room for are its drops.
+/// Takes the first packets of an old queue, as many as there is room for.
+///
+/// The others count as drops. If `keeps`, the old queue is unchanged.
 fn take_packets(
     list: &mut PacketList,
     drops: &mut u64,
@@ -29,7 +31,9 @@ fn take_packets(
     *drops = (had - *highest) as u64;
 }
 
-/// The position of a Switch with so many outputs, whose own is the first, after one that stood at the second.
+/// Returns the position of a Switch after a hot swap, from its own and the old position.
+///
+/// The old position is kept if it is -1 or one of the `outputs` outputs.
 fn position_after(outputs: u16, own: Option<u8>, old: Option<u8>) -> Option<u8>
     ensures { result ≡ kept_position outputs own old }
 {
@@ -43,9 +47,11 @@ impl State {
     ghost use Rattle.std.specs.Prelude.{◌≡◌, true};
     ghost use Rattle.click_classes.specs.TakeOver.{taken_over};
 
-    /// Takes over what the element's like-named predecessor holds, if that is of its class: a Queue and a FrontDropQueue take packets, a Counter both its counts,
-    /// and a Switch the position, where that is -1 or one of its own outputs, of which it has so many; all others nothing. It takes no memory.
-    /// The predecessor keeps its packets where that is asked; else a queue with the same room takes them as they lie.
+    /// Takes over the state of the old element of the same name, if it is of the same class.
+    ///
+    /// A Queue or FrontDropQueue takes packets, and a Counter both counts. A Switch takes the
+    /// position if it is -1 or one of its `outputs` outputs. All other elements take nothing. If
+    /// `keeps`, `old` is unchanged; otherwise its packets are unspecified. Does not allocate.
     pub fn take_over(&mut self, outputs: u16, old: &mut State, keeps: bool)
         ensures taken { self.new ≡ taken_over outputs self.old old.old }
         ensures kept { keeps ≡ true → old.new ≡ old.old }

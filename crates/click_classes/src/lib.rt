@@ -1,4 +1,4 @@
-//! The element classes: their arguments, first states, port counts and port codes (Click element reference).
+//! The element classes: their arguments, first states, ports and effects (Click element reference).
 #![tactic(auto)]
 
 mod arguments;

@@ -1,4 +1,6 @@
-//! What an element does with a packet. What a class does stands in the class's own file; here are the lists of the classes.
+//! The effects of elements on packets, by class.
+//!
+//! The functions of each class are in its own file; this module dispatches to them.
 
 ghost use Rattle.std.specs.Prelude.{◌≡◌, ℕ, MatchOption, None, true, false, nat_lt, if◌then◌else◌};
 ghost use Rattle.click_classes.specs.Acts.{after, range, side_output, pushed_to, copied_to, is_answer, is_active, pass, passed, act, sent, tries, stored, emission, burst_of, gives};
@@ -16,27 +18,29 @@ use crate::packet_list::PacketList;
 use crate::state::State;
 use click_packet::Packet;
 
-/// Consecutive ports: `count` of them from `first` on. A range of inputs goes on from 0 after the last.
+/// A range of consecutive ports: `count` of them, beginning with `first`.
+///
+/// In a range of inputs, input 0 follows the last.
 #[derive(Clone, Copy, Debug, PartialEq, Eq)]
 pub struct PortRange {
     pub first: u16,
     pub count: u16,
 }
 
-/// Where a packet goes that passes an element.
+/// The verdict on a packet that passes an element: where it goes.
 #[derive(Clone, Copy, Debug, PartialEq, Eq)]
 pub enum Verdict {
-    /// To output 0.
+    /// The packet goes to output 0.
     Forward,
-    /// To output 0, and a copy of it to output 1 where that is there.
+    /// The packet goes to output 0, and a copy to output 1 if that exists.
     Copied,
-    /// To output 1 where that is there, else nowhere; a pull of such a packet has no answer.
+    /// The packet goes to output 1 if that exists, or else nowhere; a pull does not return it.
     SideOutput,
-    /// Nowhere.
+    /// The packet goes nowhere.
     Dropped,
 }
 
-/// What becomes of a packet that was pulled: the outputs that get copies of it first, and whether it is the answer.
+/// The effect of a pulled packet: which outputs get copies first, and whether the pull returns it.
 #[derive(Clone, Copy, Debug, PartialEq, Eq)]
 pub struct PullOutcome {
     pub copies: PortRange,
@@ -47,7 +51,7 @@ const NONE: PortRange = PortRange { first: 0, count: 0 };
 
 const OUTPUT_0: PortRange = PortRange { first: 0, count: 1 };
 
-/// The port after this one, round.
+/// Returns the port after this one, or port 0 after the last.
 pub fn after(ports: u16, port: u16) -> u16
     ensures { result ≡ after ports port }
 {
@@ -58,7 +62,7 @@ pub fn after(ports: u16, port: u16) -> u16
     }
 }
 
-/// Output 1, where it is there.
+/// Returns output 1 as a range, or an empty range if it does not exist.
 fn side_output(outputs: u16) -> PortRange
     ensures { result ≡ side_output outputs }
 {
@@ -68,7 +72,7 @@ fn side_output(outputs: u16) -> PortRange
     }
 }
 
-/// The outputs that get a packet that was pushed.
+/// Returns the outputs that get a pushed packet with this verdict.
 #[inline(always)]
 fn pushed_to(outputs: &u16, verdict: Verdict) -> PortRange
     ensures { result ≡ pushed_to outputs.now verdict }
@@ -84,7 +88,7 @@ fn pushed_to(outputs: &u16, verdict: Verdict) -> PortRange
     }
 }
 
-/// What becomes of a packet that was pulled.
+/// Returns the effect of a pulled packet with this verdict.
 fn pulled(outputs: u16, verdict: Verdict) -> PullOutcome
     ensures copies { result.copies ≡ copied_to outputs verdict }
     ensures answers { result.answers ≡ is_answer verdict }
@@ -109,7 +113,7 @@ fn pulled(outputs: u16, verdict: Verdict) -> PullOutcome
     }
 }
 
-/// Whether packets pass a Suppressor at this port.
+/// Returns whether packets pass a Suppressor at this port.
 fn is_active(active: &[bool; 16], port: u16) -> bool
     ensures { result ≡ is_active active.now port }
 {
@@ -117,7 +121,7 @@ fn is_active(active: &[bool; 16], port: u16) -> bool
 }
 
 impl State {
-    /// A packet passes from one input to one output or two.
+    /// Passes a packet from an input to the outputs of the verdict that is returned.
     #[tactic(auto, unfolding(crate::specs::Acts::pass))]
     #[inline(always)]
     fn pass(&mut self, packet: &mut Packet) -> Verdict
@@ -173,14 +177,17 @@ impl State {
         }
     }
 
-    /// A packet is pushed into an input of an element with so many outputs: the outputs that get it, in order. How many there are is read where it is needed alone.
+    /// Pushes a packet into an input. Returns the outputs that get it, in order.
+    ///
+    /// perf: `outputs` is a reference, so that the number is loaded only for classes that need it.
     #[tactic(auto, unfolding(crate::specs::Acts::act, crate::specs::Acts::pass))]
     #[inline(always)]
     pub fn act(&mut self, outputs: &u16, input: u16, packet: &mut Packet) -> PortRange
         ensures { act outputs.now self.old input packet.old ≡ record { state = self.new; packet = packet.new; outputs = result } }
     {
         match self {
-            // What passes stands here again, since a second match, in `pass`, would cost as much as most of them do.
+            // perf: the cases of `pass` are repeated here, because a second match would cost as
+            // much as most of them do.
             State::Null | State::PushNull | State::PullNull => OUTPUT_0,
             State::Paint { colour } => {
                 packet.set_paint(*colour);
@@ -283,7 +290,7 @@ impl State {
         }
     }
 
-    /// The inputs that a pull at an output asks, in order, round, up to the first packet.
+    /// Returns the inputs that a pull at an output asks, in order, up to the first packet.
     #[tactic(auto, unfolding(crate::specs::Acts::tries))]
     pub fn tries(&self, inputs: u16, output: u16) -> PortRange
         ensures { result ≡ tries inputs self.now output }
@@ -337,7 +344,9 @@ impl State {
         }
     }
 
-    /// Stores a packet that is pushed into a Queue, which reads it where it lies; false, and without change, in a state of another class.
+    /// Stores a packet that is pushed into a Queue, without moving `packet`.
+    ///
+    /// Returns false, and changes nothing, if the element is of another class.
     #[tactic(auto, unfolding(crate::specs::Acts::act))]
     #[inline(always)]
     pub fn store(&mut self, packet: &Packet) -> bool
@@ -357,7 +366,10 @@ impl State {
         true
     }
 
-    /// Takes out what the element itself has stored, and makes `packet` equal to it; false, and without change, where there is nothing.
+    /// Removes the packet that the element returns without a pull of its own, and writes it to
+    /// `packet`.
+    ///
+    /// Returns false, and changes nothing, if there is none.
     #[tactic(auto, unfolding(crate::specs::Acts::stored))]
     #[inline(always)]
     pub fn take_stored(&mut self, packet: &mut Packet) -> bool
@@ -383,7 +395,9 @@ impl State {
         }
     }
 
-    /// Makes `packet` the one that a source gives next, and counts it; false, and without change, where there is none.
+    /// Writes the packet that a source emits next to `packet`, and counts it.
+    ///
+    /// Returns false, and changes nothing, if there is none.
     #[tactic(auto, unfolding(crate::specs::Acts::emission))]
     #[inline(always)]
     pub fn emit(&mut self, packet: &mut Packet) -> bool
@@ -408,7 +422,7 @@ impl State {
         true
     }
 
-    /// How many packets a source gives in one run of its task.
+    /// Returns the maximum number of packets that a source emits when its task runs once.
     #[inline(always)]
     fn burst(&self) -> u8
         ensures { result ≡ burst_of self.now }
@@ -419,8 +433,10 @@ impl State {
         }
     }
 
-    /// A run of a source's task begins: makes `packet` the first that it gives, counts it, and tells how many packets one run gives at most; 0, and without change,
-    /// where it gives none.
+    /// Begins a run of a source's task: writes the first packet to `packet`, and counts it.
+    ///
+    /// Returns the maximum number of packets of the run, or 0, and changes nothing, if there is
+    /// none.
     #[inline(always)]
     pub fn emit_first(&mut self, packet: &mut Packet) -> u8
         ensures { MatchOption (if nat_lt 0 (burst_of self.old) then emission self.old else None) ((result ≡ 0) × (self.new ≡ self.old) × (packet.new ≡ packet.old))
@@ -434,7 +450,7 @@ impl State {
         }
     }
 
-    /// A packet was pulled through an input of an element with so many ports.
+    /// Handles a packet that was pulled through an input. Returns its effect.
     #[tactic(auto, unfolding(crate::specs::Acts::gives))]
     #[inline(always)]
     pub fn gives(

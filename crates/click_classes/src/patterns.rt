@@ -1,4 +1,4 @@
-//! The patterns of a Classifier, made ready for its packets.
+//! The patterns of a Classifier, prepared for matching.
 
 ghost use Rattle.std.specs.Prelude.{◌≡◌, ◌≤◌, ◌<◌, ◌+◌, ◌^◌, ◌&&◌, ℕ, List, nat_le, length, drop, IfOk, IfSome};
 ghost use Rattle.std.specs.List.{list_all};
@@ -10,8 +10,10 @@ use click_base::sequence::Sequence;
 use std::alloc::{AllocError, Global};
 use std::marker::Model;
 
-/// That a packet reaches to an end, and that its eight bytes from a place on, as a number, agree with the value in each bit
-/// of the mask.
+/// A condition on eight bytes of a packet.
+///
+/// The packet must have at least `end` bytes, and the eight bytes at offset `at`, as a number, must
+/// be `value` in each bit of the mask.
 #[derive(Clone, Copy, Debug, PartialEq, Eq)]
 struct Step {
     at: usize,
@@ -20,7 +22,7 @@ struct Step {
     value: u64,
 }
 
-/// A clause: that each step holds; negated, that one does not.
+/// The condition of a clause: all its steps hold, or, if it is negated, one does not.
 #[derive(Drop)]
 struct Test {
     negated: bool,
@@ -28,7 +30,9 @@ struct Test {
     rest: Sequence<Step>,
 }
 
-/// The tests of a pattern, behind a step without which they do not all hold: most packets are told by it alone.
+/// The tests of a pattern, with a step that holds whenever all tests do.
+///
+/// perf: most packets are rejected by this step alone.
 #[derive(Drop)]
 struct PatternTests {
     head: Step,
@@ -42,7 +46,7 @@ pub struct Patterns {
     ready: Sequence<PatternTests>,
 }
 
-/// A step that holds of each packet.
+/// A step that holds of every packet.
 const ANY: Step = Step {
     at: 0,
     end: 0,
@@ -63,7 +67,7 @@ impl Model for Patterns {
     ghost invariant = { λ p. AllZip ArePatternTests p.written p.ready };
 }
 
-/// The byte at a place of bytes that stand behind `lead` others; 0 where there is none.
+/// Returns the byte at index `at` of `lead` zeros followed by `bytes`, or 0 after their end.
 fn byte_behind(bytes: &[u8], lead: usize, at: usize) -> u8
     ensures { result ≡ behind lead bytes.now at }
 {
@@ -74,7 +78,9 @@ fn byte_behind(bytes: &[u8], lead: usize, at: usize) -> u8
     }
 }
 
-/// Eight bytes as a number: those that stand behind `lead` others, and 0 where there are none.
+/// Returns the first eight bytes of `lead` zeros followed by `bytes`, as a number.
+///
+/// Bytes after the end are 0.
 #[tactic(auto, unfolding(crate::specs::kept::Masks::word))]
 #[inline(never)]
 fn word_behind(bytes: &[u8], lead: usize) -> u64
@@ -92,7 +98,7 @@ fn word_behind(bytes: &[u8], lead: usize) -> u64
     ])
 }
 
-/// Eight bytes as a number, from a place on.
+/// Returns the eight bytes at offset `at` as a number.
 #[tactic(auto, unfolding(crate::specs::kept::Masks::word))]
 #[inline(always)]
 fn word_at(bytes: &[u8], at: usize) -> u64
@@ -111,7 +117,7 @@ fn word_at(bytes: &[u8], at: usize) -> u64
     ])
 }
 
-/// The step of up to eight bytes of a clause, which a packet has to have from the offset on.
+/// Returns the step for up to eight bytes of a clause, which the packet must have at the offset.
 fn step_of(offset: usize, value: &[u8], mask: &[u8]) -> Step
     requires same { length value.now ≡ length mask.now }
     requires few { length value.now ≤ 8 }
@@ -133,7 +139,7 @@ fn step_of(offset: usize, value: &[u8], mask: &[u8]) -> Step
     }
 }
 
-/// The further steps of a clause, from so many of its bytes on.
+/// Returns the steps for the bytes of a clause from index `from` on.
 fn steps_of(
     alloc: Global,
     offset: usize,
@@ -155,7 +161,7 @@ fn steps_of(
     Ok(steps)
 }
 
-/// The test of a clause.
+/// Returns the test of a clause.
 fn test_of(alloc: Global, clause: &Clause) -> Result<Test, AllocError>
     ensures { IfOk result (λ test. IsTest clause.now test) }
 {
@@ -170,7 +176,9 @@ fn test_of(alloc: Global, clause: &Clause) -> Result<Test, AllocError>
     })
 }
 
-/// The tests of a pattern, that of its last clause first: patterns mostly begin alike.
+/// Returns the tests of a pattern, with that of its last clause first.
+///
+/// perf: the first clauses of patterns are often the same.
 fn tests_of(alloc: Global, pattern: &Pattern) -> Result<Sequence<Test>, AllocError>
     ensures { IfOk result (λ tests. AreTests pattern.now tests) }
 {
@@ -184,7 +192,9 @@ fn tests_of(alloc: Global, pattern: &Pattern) -> Result<Sequence<Test>, AllocErr
     Ok(tests)
 }
 
-/// A step without which tests do not all hold: that of the first of them, unless it is negated.
+/// Returns a step that holds whenever all tests do.
+///
+/// It is the first step of the first test, unless that is negated.
 fn head_of(tests: &[Test]) -> Step
     ensures { (bytes : List ℕ) → (step_holds result bytes && tests_hold tests.now bytes) ≡ tests_hold tests.now bytes }
 {
@@ -195,7 +205,7 @@ fn head_of(tests: &[Test]) -> Step
     if test.negated { ANY } else { test.first }
 }
 
-/// The tests of a pattern with their step.
+/// Returns the tests of a pattern with their head step.
 fn pattern_tests(alloc: Global, pattern: &Pattern) -> Result<PatternTests, AllocError>
     ensures { IfOk result (λ made. ArePatternTests pattern.now made) }
 {
@@ -205,7 +215,7 @@ fn pattern_tests(alloc: Global, pattern: &Pattern) -> Result<PatternTests, Alloc
 }
 
 impl Step {
-    /// Whether it holds of a packet that has not eight bytes from its place on.
+    /// Returns whether the step holds of a packet that has fewer than eight bytes from `at` on.
     #[inline(never)]
     fn holds_at_the_end(&self, bytes: &[u8]) -> bool
         ensures { result ≡ (nat_le self.now.end (length bytes.now) && fits self.now bytes.now) }
@@ -214,7 +224,7 @@ impl Step {
         self.end <= bytes.len() && word_behind(rest, 0) & self.mask == self.value
     }
 
-    /// Whether it holds of a packet's bytes.
+    /// Returns whether the step holds of a packet's bytes.
     #[inline(always)]
     fn holds(&self, bytes: &[u8]) -> bool
         ensures { result ≡ step_holds self.now bytes.now }
@@ -227,7 +237,7 @@ impl Step {
     }
 }
 
-/// Whether all steps hold of a packet's bytes.
+/// Returns whether all steps hold of a packet's bytes.
 #[inline(always)]
 fn steps_hold(steps: &Sequence<Step>, bytes: &[u8]) -> bool
     ensures { result ≡ list_all (λ s. step_holds s bytes.now) steps.now }
@@ -236,7 +246,7 @@ fn steps_hold(steps: &Sequence<Step>, bytes: &[u8]) -> bool
 }
 
 impl Test {
-    /// Whether it holds of a packet's bytes.
+    /// Returns whether the test holds of a packet's bytes.
     #[inline(always)]
     fn holds(&self, bytes: &[u8]) -> bool
         ensures { result ≡ test_holds self.now bytes.now }
@@ -246,7 +256,9 @@ impl Test {
     }
 }
 
-/// Whether all tests hold of a packet's bytes. It is a call of its own, so that what it needs takes no registers from those who look for a pattern.
+/// Returns whether all tests hold of a packet's bytes.
+///
+/// perf: out of line, so that it takes no registers from the search for a pattern.
 #[inline(never)]
 fn tests_hold(tests: &Sequence<Test>, bytes: &[u8]) -> bool
     ensures { result ≡ tests_hold tests.now bytes.now }
@@ -254,7 +266,7 @@ fn tests_hold(tests: &Sequence<Test>, bytes: &[u8]) -> bool
     tests.as_slice().iter().all(|test| test.holds(bytes))
 }
 
-/// The place of the first pattern whose tests all hold.
+/// Returns the index of the first pattern whose tests all hold.
 fn first_matching(ready: &[PatternTests], bytes: &[u8]) -> Option<usize>
     ensures place { result ≡ first_matching ready.now bytes.now }
     ensures bound { IfSome result (λ place. place < length ready.now) }
@@ -263,7 +275,7 @@ fn first_matching(ready: &[PatternTests], bytes: &[u8]) -> Option<usize>
 }
 
 impl Patterns {
-    /// These patterns.
+    /// Returns the patterns, prepared for matching, or fails with out of memory.
     pub(crate) fn of(alloc: Global, written: Sequence<Pattern>) -> Result<Patterns, AllocError>
         ensures { IfOk result (λ patterns. patterns ≡ written) }
     {
@@ -275,14 +287,14 @@ impl Patterns {
         Ok(Patterns { written, ready })
     }
 
-    /// How many patterns there are.
+    /// Returns the number of patterns.
     pub fn len(&self) -> usize
         ensures { result ≡ length self.now }
     {
         self.written.len()
     }
 
-    /// The place of the first pattern that bytes match, of the first 256.
+    /// Returns the index of the first pattern that the bytes match, among at most 256 patterns.
     #[inline(never)]
     pub(crate) fn first_match(&self, bytes: &[u8]) -> Option<usize>
         ensures place { result ≡ classified self.now bytes.now }

@@ -1,4 +1,4 @@
-//! The ports of an element: their kinds, push, pull or agnostic (Kohler et al., "The Click Modular Router"), and how many there may be.
+//! The ports of the classes: push, pull or agnostic (TOCS 2000), and how many there may be.
 
 ghost use Rattle.std.specs.Prelude.{◌≡◌};
 ghost use Rattle.click_classes.specs.Ports.{codes_of, code, passes, counts, outputs_for, at_least, up_to_256};
@@ -8,7 +8,7 @@ use crate::state::State;
 use crate::values::entry::Entry;
 use click_base::Class;
 
-/// Inputs of one code and outputs of one code.
+/// Returns codes with one code for all inputs and one for all outputs.
 fn same(inputs: Code, outputs: Code) -> Codes
     ensures { result ≡ record { inputs = inputs; output = outputs; further = outputs } }
 {
@@ -19,7 +19,7 @@ fn same(inputs: Code, outputs: Code) -> Codes
     }
 }
 
-/// The codes of a class; a side without ports is agnostic.
+/// Returns the codes of a class. A side without ports is agnostic.
 fn codes_of(class: Class) -> Codes
     ensures { result ≡ codes_of class }
 {
@@ -60,7 +60,7 @@ fn codes_of(class: Class) -> Codes
     }
 }
 
-/// The code of a class's port.
+/// Returns the code of a port of the class.
 pub fn code(class: Class, side: Side, port: u16) -> Code
     ensures { result ≡ code class side port }
 {
@@ -72,7 +72,7 @@ pub fn code(class: Class, side: Side, port: u16) -> Code
     }
 }
 
-/// Whether packets pass inside an element of the class from that input to that output.
+/// Returns whether packets pass from this input to this output inside an element of the class.
 pub fn passes(class: Class, input: u16, output: u16) -> bool
     ensures { result ≡ passes class input output }
 {
@@ -83,7 +83,7 @@ pub fn passes(class: Class, input: u16, output: u16) -> bool
     }
 }
 
-/// How many ports a switch needs that uses this one.
+/// Returns the number of ports that a switch needs if it uses this port.
 fn ports_for(port: Option<u8>) -> u16
     ensures { result ≡ at_least port }
 {
@@ -93,7 +93,7 @@ fn ports_for(port: Option<u8>) -> u16
     }
 }
 
-/// The outputs of a Tee: as many as the argument says, else 1 to 256.
+/// Returns the range for the outputs of a Tee: the number of the argument, or else 1 to 256.
 fn copies(outputs: Option<u16>) -> (u16, u16)
     ensures { result ≡ up_to_256 outputs }
 {
@@ -103,7 +103,7 @@ fn copies(outputs: Option<u16>) -> (u16, u16)
     }
 }
 
-/// How many outputs the entries of a table name.
+/// Returns the number of outputs that the entries of a table need.
 fn outputs_for(entries: &[Entry]) -> u16
     ensures { result ≡ outputs_for entries.now }
 {
@@ -117,7 +117,7 @@ fn outputs_for(entries: &[Entry]) -> u16
     most
 }
 
-/// How many ports an element in this state may have.
+/// Returns the numbers of ports that an element in this state may have.
 pub fn counts(state: &State) -> Counts
     ensures { result ≡ counts state.now }
 {

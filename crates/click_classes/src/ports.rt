@@ -1,11 +1,11 @@
-//! What is said of ports: their codes and their number.
+//! The codes of ports, and ranges for their numbers.
 
-/// How a class's port moves packets.
+/// The code of a class's port: how it moves packets.
 #[derive(Clone, Copy, Debug, PartialEq, Eq)]
 pub enum Code {
     Push,
     Pull,
-    /// Push or pull, as the port that it reaches is.
+    /// Push or pull, according to what the port is connected to.
     Agnostic,
 }
 
@@ -16,7 +16,7 @@ pub enum Side {
     Output,
 }
 
-/// The codes of a class: of its inputs, of its first output, and of the outputs after that.
+/// The codes of a class: of its inputs, of output 0, and of the further outputs.
 #[derive(Clone, Copy, Debug, PartialEq, Eq)]
 pub struct Codes {
     pub inputs: Code,
@@ -24,7 +24,9 @@ pub struct Codes {
     pub further: Code,
 }
 
-/// The least and the greatest number of inputs and of outputs, and whether the two have to be equal.
+/// The ranges for the numbers of inputs and outputs, and whether these must be equal.
+///
+/// A range is its least and its greatest number.
 #[derive(Clone, Copy, Debug, PartialEq, Eq)]
 pub struct Counts {
     pub inputs: (u16, u16),

@@ -1,4 +1,4 @@
-//! The table of a StaticIPLookup, made ready for its packets.
+//! The table of a StaticIPLookup, prepared for lookups.
 
 ghost use Rattle.std.specs.Prelude.{◌≡◌, ◌≤◌, ◌-◌, ◌^◌, ◌++◌, length, map, option_map, OnOk, IfOk};
 ghost use Rattle.std.specs.List.{All, filter};
@@ -10,7 +10,9 @@ use click_base::sequence::Sequence;
 use std::alloc::{AllocError, Global};
 use std::marker::Model;
 
-/// An entry, with the bits of an address that its prefix tells: which they are, and what they have to be.
+/// An entry with its prefix as two numbers.
+///
+/// The prefix covers an address if the address, as a number, is `network` in each bit of the mask.
 #[derive(Clone, Copy, Debug, PartialEq, Eq)]
 struct Row {
     mask: u32,
@@ -18,7 +20,7 @@ struct Row {
     entry: Entry,
 }
 
-/// The entries as written, and a row for each of them, those with the longest prefixes first.
+/// The entries as written, and a row for each entry, with the longest prefixes first.
 #[derive(Drop)]
 pub struct Routes {
     entries: Sequence<Entry>,
@@ -38,7 +40,7 @@ impl Model for Routes {
     ghost invariant = { λ r. (a : List ℕ) → IsAddress a → first_found r.rows.items (word a) ≡ route r.entries a };
 }
 
-/// The first `len` bits of an address.
+/// Returns the number in which exactly the first `len` of 32 bits are set.
 fn mask_of(len: u8) -> u32
     requires { len ≤ 32 }
     ensures { result ≡ 2 ^ 32 - 2 ^ (32 - len) }
@@ -46,7 +48,7 @@ fn mask_of(len: u8) -> u32
     if len == 0 { 0 } else { u32::MAX << (32 - len) }
 }
 
-/// An address as a number.
+/// Returns an address as a number.
 fn word_of(address: [u8; 4]) -> u32
     ensures value { result ≡ word address }
     ensures address { IsAddress address }
@@ -55,7 +57,7 @@ fn word_of(address: [u8; 4]) -> u32
     u32::from_be_bytes([first, second, third, fourth])
 }
 
-/// The row of an entry.
+/// Returns the row of an entry.
 fn row_of(entry: Entry) -> Row
     requires { entry.prefix.len ≤ 32 }
     ensures entry { result.entry ≡ entry }
@@ -68,7 +70,7 @@ fn row_of(entry: Entry) -> Row
     }
 }
 
-/// Adds the rows of the entries whose prefixes have that length.
+/// Appends the rows of the entries whose prefixes have this length.
 fn push_rows(rows: &mut Vec<Row>, entries: &[Entry], len: u8) -> Result<(), AllocError>
     requires short { All IsShort entries.now }
     requires ready { All IsReady rows.old.items }
@@ -83,7 +85,9 @@ fn push_rows(rows: &mut Vec<Row>, entries: &[Entry], len: u8) -> Result<(), Allo
     Ok(())
 }
 
-/// The rows of the entries, those with the longest prefixes first, and of those as long the first written first.
+/// Returns the rows of the entries, with the longest prefixes first.
+///
+/// Entries with prefixes of the same length keep their order.
 fn rows_of(alloc: Global, entries: &[Entry]) -> Result<Vec<Row>, AllocError>
     requires { All IsShort entries.now }
     ensures entries { IfOk result (λ rows. map entry_of rows.items ≡ longest_first 33 entries.now) }
@@ -98,7 +102,7 @@ fn rows_of(alloc: Global, entries: &[Entry]) -> Result<Vec<Row>, AllocError>
     Ok(rows)
 }
 
-/// The entry of the first row that tells the bits of the address.
+/// Returns the first row whose prefix covers the address.
 #[inline(always)]
 fn first_found(rows: &[Row], word: u32) -> Option<&Row>
     ensures { option_map (λ row. row.now.entry) result ≡ first_found rows.now word }
@@ -112,7 +116,7 @@ fn first_found(rows: &[Row], word: u32) -> Option<&Row>
 }
 
 impl Routes {
-    /// The table of these entries.
+    /// Returns the table with these entries, or fails with out of memory.
     pub(crate) fn of(alloc: Global, entries: Sequence<Entry>) -> Result<Routes, AllocError>
         requires { All IsShort entries }
         ensures { IfOk result (λ routes. routes ≡ entries) }
@@ -121,21 +125,21 @@ impl Routes {
         Ok(Routes { entries, rows })
     }
 
-    /// The entries, as written.
+    /// Returns the entries, as written.
     pub(crate) fn as_slice(&self) -> &[Entry]
         ensures { result.now ≡ self.now }
     {
         self.entries.as_slice()
     }
 
-    /// How many entries there are.
+    /// Returns the number of entries.
     pub fn len(&self) -> usize
         ensures { result ≡ length self.now }
     {
         self.entries.len()
     }
 
-    /// The entry with the longest prefix that the address has.
+    /// Returns the entry with the longest prefix that covers the address.
     #[inline(always)]
     pub fn find(&self, address: [u8; 4]) -> Option<Entry>
         ensures { result ≡ route self.now address }

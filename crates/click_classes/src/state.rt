@@ -9,32 +9,33 @@ use crate::routes::Routes;
 use click_base::Class;
 use click_base::sequence::Sequence;
 
-/// A state of each class, with the values that its arguments and its handlers have.
+/// The state of an element of each class: what its arguments and handlers set, and what packets
+/// change.
 #[derive(Drop)]
 pub enum State {
-    /// The packets, how many were dropped, and the greatest number of packets.
+    /// The packets, the number of drops, and the greatest number of packets.
     Queue {
         list: PacketList,
         drops: u64,
         highest: usize,
     },
-    /// As of Queue.
+    /// The packets, the number of drops, and the greatest number of packets.
     FrontDropQueue {
         list: PacketList,
         drops: u64,
         highest: usize,
     },
     Unqueue,
-    /// How many packets and bytes passed.
+    /// The numbers of packets and bytes that passed.
     Counter {
         count: u64,
         byte_count: u64,
     },
-    /// The output that packets go to, None for -1.
+    /// The output that packets go to; `None` for -1.
     Switch {
         output: Option<u8>,
     },
-    /// The input that packets come from, None for -1.
+    /// The input that packets come from; `None` for -1.
     PullSwitch {
         input: Option<u8>,
     },
@@ -42,16 +43,16 @@ pub enum State {
     RoundRobinSwitch {
         next: u16,
     },
-    /// The input that is asked next.
+    /// The input that the next pull asks first.
     RoundRobinSched {
         next: u16,
     },
     PrioSched,
-    /// How many outputs there have to be, if the argument says it.
+    /// The required number of outputs, if the argument gives it.
     Tee {
         outputs: Option<u16>,
     },
-    /// As of Tee.
+    /// The required number of outputs, if the argument gives it.
     PullTee {
         outputs: Option<u16>,
     },
@@ -60,7 +61,7 @@ pub enum State {
     Null,
     PushNull,
     PullNull,
-    /// Which inputs are active.
+    /// Whether each input is active.
     Suppressor {
         active: [bool; 16],
     },
@@ -70,11 +71,11 @@ pub enum State {
     PaintTee {
         colour: u8,
     },
-    /// How many bytes are taken off.
+    /// The number of bytes that are removed.
     Strip {
         count: u16,
     },
-    /// How many bytes a packet may have.
+    /// The maximum length of a packet, in bytes.
     CheckLength {
         max: u16,
     },
@@ -82,7 +83,7 @@ pub enum State {
     Classifier {
         patterns: Patterns,
     },
-    /// Where the address begins.
+    /// The offset of the address.
     GetIPAddress {
         offset: u16,
     },
@@ -90,7 +91,7 @@ pub enum State {
     StaticIPLookup {
         entries: Routes,
     },
-    /// The sources whose packets are bad.
+    /// The source addresses that are refused.
     CheckIPHeader {
         refused: Sequence<[u8; 4]>,
     },
@@ -99,8 +100,10 @@ pub enum State {
     EtherEncap {
         header: [u8; 14],
     },
-    /// The bytes of each packet, how many packets in all (None: without an end), how many in one run, whether there are
-    /// any now, and how many there were.
+    /// The bytes of each packet and the settings of the source.
+    ///
+    /// `limit` is the maximum number of packets; `None` if it has no limit. `burst` is the maximum
+    /// number for each run of the task. `count` is the number of packets so far.
     InfiniteSource {
         bytes: Sequence<u8>,
         limit: Option<u64>,
@@ -117,7 +120,7 @@ pub enum State {
 }
 
 impl State {
-    /// The class of the element.
+    /// Returns the class of the element.
     pub fn class(&self) -> Class
         ensures { result ≡ class self.now }
     {

@@ -1,4 +1,4 @@
--- Arguments made of options, which clap tells apart.
+-- Lemmas about the arguments of clap that are made from options.
 use Rattle.std.proofs.Common.{◌≡◌, ◌<◌, ◌≤◌, ◌+◌, ◌&&◌, not, ℕ, zero, suc, List, [], ◌∷◌, ◌++◌, Bool, true, false, length, take, get_or, All, is_some, ap, sym, subst, ◌∙◌, refl, inl, inr, arith}
 use Rattle.std.specs.Str.{bytes_eq}
 use Rattle.std.specs.List.{AllByRecursion, AllZip, slice_index_or}
@@ -36,7 +36,7 @@ fits option arg is free = (
   ]),
 )
 
--- what the options' being apart says of the first of them
+-- what `are_apart` says of the first option and of the others
 parts : (x : CommandOption) (xs : List CommandOption) → are_apart (x ∷ xs) ≡ true
     → (is_free x.id.now ≡ true) × (is_new x.id.now xs ≡ true) × (are_apart xs ≡ true)
 parts x xs apart =
@@ -50,7 +50,7 @@ all_fit [] (y ∷ ys) are apart = absurd are
 all_fit (x ∷ xs) [] are apart = absurd are
 all_fit (x ∷ xs) (y ∷ ys) are apart = All-cons FitsChain y ys (fits x y are.0 (parts x xs apart).0) (all_fit xs ys are.1 (parts x xs apart).2)
 
--- an id that none of the options has is none of their arguments'
+-- an id that no option has is the id of no argument
 other_id : (id : List ℕ) (options : List CommandOption) (args : List Arg) → AllZip IsArgument options args → is_new id options ≡ true
     → (k : ℕ) (d : Arg) → k < length args → id ≡ (slice_index_or args k d).id.now → ⊥
 other_id id [] [] are new k d lt same = absurd (omega arith)
@@ -77,12 +77,12 @@ distinct (x ∷ xs) (y ∷ ys) are apart (suc j) zero d e low high same =
 distinct (x ∷ xs) (y ∷ ys) are apart (suc j) (suc k) d e low high same =
     ap suc (distinct xs ys are.1 (parts x xs apart).2 j k d e (omega arith) (omega arith) same)
 
--- one argument more
+-- one more argument
 pub argued-more : (options : List CommandOption) (args : List Arg) (n : ℕ) (d : CommandOption) (arg : Arg) → n < length options → AllZip IsArgument (take n options) args
     → IsArgument (get_or options n d) arg → AllZip IsArgument (take (n + 1) options) (args ++ arg ∷ [])
 argued-more options args n d arg lt so_far is = rw (take_more options n d lt) (all_zipped_more IsArgument (take n options) args (get_or options n d) arg so_far is)
 
--- where each argument that takes a value has one, so have the options
+-- if each argument that takes a value has one, each required option has one
 have_values : (found : Found) (options : List CommandOption) (args : List Arg) → AllZip IsArgument options args
     → ((k : ℕ) (d : Arg) → k < length args → TakesValue (slice_index_or args k d) → is_some (first_value found (slice_index_or args k d).id.now) ≡ true)
     → AllByRecursion (HasItsValue found) options
@@ -94,7 +94,7 @@ have_values found (x ∷ xs) (y ∷ ys) are values = (
   have_values found xs ys are.1 (λ k d lt takes. values (suc k) d (omega arith) takes),
 )
 
--- all options have their arguments, so those that have to be given have values
+-- if all options have arguments, each required option has a value
 pub parsed_values : (start command : Command) (options : List CommandOption) (args : List Arg) (n : ℕ) (matches : ArgMatches) → length options ≤ n → AllZip IsArgument (take n options) args
     → IsNew start → are_apart options ≡ true → AddsInTurn AddsArg start args command → IsParsedFrom command matches → AllByRecursion (HasItsValue (found_of matches)) options
 parsed_values start command options args n matches all so_far new apart adds parsed =

@@ -17,13 +17,13 @@ pub record IsNew (command : Command) : Type 0 where
   pub globals : (out-Command command).has_globals ≡ false
   pub negates : (out-Command command).subcommand_negates_reqs ≡ false
 
--- an option of this kind has to be given
+-- an option that takes this is required
 abbrev pub is_needed : Takes → Bool
 is_needed (takes.NeededText name) = true
 is_needed (takes.NeededWord name) = true
 is_needed _ = false
 
--- the option has a value if it has to be given
+-- the option has a value if it is required
 abbrev pub HasItsValue : Found → CommandOption → Type 0
 HasItsValue found option = is_needed option.takes ≡ true → is_some (first_value found option.id.now) ≡ true
 
@@ -36,11 +36,11 @@ abbrev pub is_new : List ℕ → List CommandOption → Bool
 is_new id [] = true
 is_new id (option ∷ options) = not (bytes_eq id option.id.now) && is_new id options
 
--- each option has an id of its own
+-- no two options have the same id
 abbrev pub are_apart : List CommandOption → Bool
 are_apart [] = true
 are_apart (option ∷ options) = is_free option.id.now && (is_new option.id.now options && are_apart options)
 
--- the flag of this value, as clap keeps it
+-- the flag that clap stores for this value
 abbrev pub IsFlag : Option (List ℕ) → Bool → Type 0
 IsFlag value flag = (value ≡ None → flag ≡ false) × (value ≡ Some (codes "true") → flag ≡ true) × (value ≡ Some (codes "false") → flag ≡ false)

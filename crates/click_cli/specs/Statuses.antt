@@ -1,4 +1,4 @@
--- How a program ends.
+-- The statuses that a program ends with.
 use Rattle.std.specs.Prelude.{ℕ}
 use Rattle.std.specs.declared.io.ErrorKind.{ErrorKind}
 use Rattle.std.specs.declared.io.ErrorKind.TheVariants as io
@@ -18,17 +18,17 @@ code status.NoMemory = 3
 code status.Refused = 3
 code status.DeviceFailed = 4
 
--- by the fault of a configuration
+-- the status for the fault of a configuration
 abbrev pub config_status : FaultKind → Status
 config_status kind.NoMemory = status.NoMemory
 config_status _ = status.Faulty
 
--- where the words of the command line cannot be read
+-- the status if the words of the command line cannot be read
 abbrev pub unread_status : ErrorKind → Status
 unread_status io.OutOfMemory = status.NoMemory
 unread_status _ = status.Wrong
 
--- where clap has something to say of them
+-- the status if clap reports an error of the words
 abbrev pub parse_status : ParseErrorKind → Status
 parse_status parse.OutOfMemory = status.NoMemory
 parse_status _ = status.Wrong

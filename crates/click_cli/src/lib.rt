@@ -1,4 +1,4 @@
-//! What the three programs share: the options and words of their command lines, and how they end.
+//! The options and words of a command line, and the statuses that a program ends with.
 #![tactic(auto)]
 
 mod options;

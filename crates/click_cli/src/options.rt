@@ -10,31 +10,31 @@ ghost use Rattle.click_cli.specs.Options.{HasItsValue, IsNew, are_apart, is_need
 use clap::{Arg, ArgAction, ArgMatches, Command, Error};
 use std::alloc::Global;
 
-/// What stands before an option's value, as `-e` or `--in`.
+/// The name of an option, such as `-e` or `--in`.
 #[derive(Clone, Copy, Debug)]
 pub enum OptionName {
     Short(char),
     Long(&'static str),
 }
 
-/// What an option takes, with the name that help has for it.
+/// The value that an option takes, with its name in the help text.
 #[derive(Clone, Copy, Debug)]
 pub enum Takes {
-    /// It is a flag.
+    /// The option is a flag.
     Nothing,
-    /// A text, as `-1` too: which number that is, if it is one, is for the program to see.
+    /// A text, which may also be a negative number. The program parses the number.
     Number(&'static str),
-    /// A text that begins with no dash.
+    /// A text that does not begin with a hyphen.
     Text(&'static str),
-    /// Such a text each time that it is given.
+    /// A text that does not begin with a hyphen; the option may be repeated.
     Texts(&'static str),
-    /// Such a text, and it has to be given.
+    /// A text that does not begin with a hyphen; the option is required.
     NeededText(&'static str),
-    /// The next word whatever it is, and it has to be given.
+    /// The next word, whatever it is; the option is required.
     NeededWord(&'static str),
 }
 
-/// An option of a command line. By its id a program finds what it was given.
+/// An option of a command line. A program finds its value by the `id`.
 #[derive(Clone, Copy, Debug)]
 pub struct CommandOption {
     pub id: &'static str,
@@ -43,7 +43,7 @@ pub struct CommandOption {
     pub help: &'static str,
 }
 
-/// The option of the configuration, which each program has.
+/// The option for the configuration, which each mode has.
 pub const TEXT: CommandOption = CommandOption {
     id: "text",
     name: OptionName::Short('e'),
@@ -51,7 +51,7 @@ pub const TEXT: CommandOption = CommandOption {
     help: "The configuration of the router",
 };
 
-/// The option for clap.
+/// Returns the option as an argument of clap.
 fn argument<'a>(alloc: Global, option: &CommandOption) -> Arg<'a>
     ensures plain { (result.id.now ≡ option.now.id.now) × IsPlainArg result × (result.global ≡ false) }
     ensures needed { is_needed option.now.takes ≡ true → TakesValue result }
@@ -74,7 +74,7 @@ fn argument<'a>(alloc: Global, option: &CommandOption) -> Arg<'a>
     }
 }
 
-/// What clap finds in the words for a command of these options.
+/// Parses the words with a command that gets these options.
 pub fn parse<'a>(
     alloc: Global,
     command: Command<'a>,
@@ -83,7 +83,7 @@ pub fn parse<'a>(
 ) -> Result<ArgMatches<'a>, Error>
     requires new { IsNew command }
     requires apart { are_apart options.now ≡ true }
-    // Where it has nothing to say each option that has to be given has a value.
+    // If clap reports no error, each required option has a value.
     ensures values { IfOk result (λ matches. AllByRecursion (HasItsValue (found_of matches)) options.now) }
     ensures parsed { IfOk result (λ matches. (command : Command) × IsParsedFrom command matches) }
 {
@@ -96,7 +96,7 @@ pub fn parse<'a>(
     Ok(matches)
 }
 
-/// An argument with the option's name and help.
+/// Returns an argument with the name and the help text of the option.
 fn named<'a>(alloc: Global, option: &CommandOption) -> Arg<'a>
     ensures plain { (result.id.now ≡ option.now.id.now) × IsPlainArg result × (result.global ≡ false) }
     ensures values { (result.val_delim ≡ None) × (result.num_vals ≡ None) }

@@ -1,4 +1,4 @@
-//! Why a program does not begin, as it is told.
+//! Reports why a program does not start.
 
 ghost use Rattle.std.specs.Prelude.{◌≡◌, ◌++◌, ◌∷◌, [], OnOk};
 ghost use Rattle.std.specs.Io.KnownBytes.{Appends};
@@ -12,19 +12,21 @@ use click_router::{ConfigFault, FaultKind};
 use std::alloc::Global;
 use std::io::{self, Write};
 
-/// Tells what clap has to say of the words; nothing where memory ran out.
+/// Reports what clap says of the words, and returns the status. Reports nothing if it is out of
+/// memory.
 pub fn refuse_arguments(host: &HostRuntime, error: &Error) -> Status
     ensures { result ≡ parse_status (kind_of error.now) }
 {
     if error.kind() == ErrorKind::OutOfMemory {
         return Status::NoMemory;
     }
-    // A failed write changes nothing of the status.
+    // A failed write does not change the status.
     let _ = host.eprint(error);
     Status::Wrong
 }
 
-/// Tells why a configuration is refused, in a line with this before it; nothing where memory ran out.
+/// Reports the fault of a configuration as a line that begins with `before`, and returns the
+/// status. Reports nothing if the fault is out of memory.
 pub fn refuse_configuration<W: Write>(
     alloc: Global,
     errors: &mut W,
@@ -36,7 +38,7 @@ pub fn refuse_configuration<W: Write>(
     if fault.kind == FaultKind::NoMemory {
         return Status::NoMemory;
     }
-    // A failed write changes nothing of the status.
+    // A failed write does not change the status.
     let _ = match fault.text(alloc) {
         Ok(text) => write_line(errors, before, text.as_slice()),
         Err(_) => write_line(errors, before, b"faulty configuration"),

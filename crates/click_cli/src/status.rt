@@ -1,24 +1,24 @@
-//! How a program ends.
+//! The statuses that a program ends with.
 
 ghost use Rattle.std.specs.Prelude.{◌≡◌};
 ghost use Rattle.click_cli.specs.Statuses.{code};
 
-/// How a program ends, for its caller.
+/// How a program ended, as its caller sees it.
 #[derive(Clone, Copy, Debug, PartialEq, Eq)]
 pub enum Status {
     Good,
-    /// The configuration is faulty, or what is read beside it.
+    /// The configuration has a fault, or the data that is read in addition to it has one.
     Faulty,
-    /// The arguments are wrong, or a line that is read is none of those that may stand there.
+    /// The arguments are wrong, or a line of the input is not one that is allowed there.
     Wrong,
     NoMemory,
-    /// What was asked of a desk was refused: no run of a program comes to it.
+    /// A desk refused a call. No run of a program leads to this status.
     Refused,
     DeviceFailed,
 }
 
 impl Status {
-    /// The number that the caller sees.
+    /// Returns the number that the caller sees.
     pub fn code(self) -> u8
         ensures { result ≡ code self }
     {

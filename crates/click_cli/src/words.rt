@@ -7,7 +7,8 @@ ghost use Rattle.click_cli.specs.Statuses.{unread_status};
 use crate::status::Status;
 use std::{env, io};
 
-/// The words that this program was called with. Else why they cannot be read is told, and this is the status.
+/// Returns the words that the program was called with. If they cannot be read, reports why and
+/// returns the status.
 pub fn words_of(host: &HostRuntime, program: &str) -> Result<Vec<String>, Status>
     ensures { IfErr result (λ status. (kind : ErrorKind) × (status ≡ unread_status kind)) }
 {
@@ -21,14 +22,15 @@ pub fn words_of(host: &HostRuntime, program: &str) -> Result<Vec<String>, Status
     }
 }
 
-/// Tells that one of the words is no text; nothing where memory ran out.
+/// Reports that some word is not UTF-8, and returns the status. Reports nothing if it is out of
+/// memory.
 fn refuse_words(host: &HostRuntime, program: &str, kind: io::ErrorKind) -> Status
     ensures { result ≡ unread_status kind }
 {
     if kind == io::ErrorKind::OutOfMemory {
         return Status::NoMemory;
     }
-    // A failed write changes nothing of the status.
+    // A failed write does not change the status.
     let _ = eprintln!(host; "{program}: an argument is not UTF-8");
     Status::Wrong
 }

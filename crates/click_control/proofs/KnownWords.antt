@@ -1,4 +1,4 @@
--- Lemmas on what a line says whose words are known.
+-- Lemmas on the meaning of a line whose words are known.
 use Rattle.std.proofs.Common.{◌≡◌, ℕ, zero, suc, ◌^◌, ◌<◌, ◌≤◌, List, [], ◌∷◌, ◌++◌, Bool, true, false, not, ◌&&◌, length, take, Some, decimal, codes, refl, sym, ap, ◌∙◌, append_assoc, append-nil, arith}
 use Rattle.std.specs.Prelude.{take_while, nat_le, nat_eq, if◌then◌else◌}
 use Rattle.std.specs.Str.{bytes_eq, str_eq_ignore_ascii_case, str_to_ascii_lowercase}
@@ -64,7 +64,7 @@ word_left (b ∷ w) rest h q =
     let e = no_blank (is_blank b) p.0 in
     rw e (word_left w rest p.1 q)
 
--- the first word behind blanks, and what follows it
+-- the first word after blanks, and the rest after it
 pub first_is : (blanks w rest : List ℕ) → AreBlanks blanks → IsWord w → EndsWord rest → first_word (blanks ++ (w ++ rest)) ≡ w
 first_is blanks w rest h is q =
     let len = word_len w rest is.1 q in
@@ -83,7 +83,7 @@ first_none blanks h = ap (take_while (λ b. not (is_blank b))) (no_word blanks h
 after_none : (blanks : List ℕ) → AreBlanks blanks → after_word blanks ≡ []
 after_none blanks h = ap from_blank (no_word blanks h)
 
--- what a line says whose first word is this
+-- the meaning of a line whose first word is this
 parsed : (before w rest : List ℕ) → AreBlanks before → IsWord w → EndsWord rest → parse_line (before ++ (w ++ rest)) ≡ parse_unless_blank w rest
 parsed before w rest h is q =
     ap (λ v. parse_unless_blank v (after_word (before ++ (w ++ rest)))) (first_is before w rest h is q) ∙ ap (parse_unless_blank w) (after_is before w rest h is q)
@@ -102,7 +102,7 @@ check_whole : (w : Direction) (handler : List ℕ) → IsWord handler → parse_
 check_whole w [] is = absurd (let some = is.0 in omega arith)
 check_whole w (b ∷ handler) is = refl
 
--- what a line says that begins with a word of the protocol
+-- the meaning of a line that begins with a word of the protocol
 text_said_by : (w : Direction) (rest : List ℕ) → parse_unless_blank (text_word w) rest ≡ parse_text w (first_word rest) (trimmed (after_word rest))
 text_said_by direction.Read rest = refl
 text_said_by direction.Write rest = refl
@@ -127,7 +127,7 @@ data_word-is : (w : Direction) → IsWord (data_word w)
 data_word-is direction.Read = (omega arith, refl)
 data_word-is direction.Write = (omega arith, refl)
 
--- a handler, and a text behind it
+-- a handler, and a text after it
 module _ (w : Direction) (gap handler space text after : List ℕ) (apart : IsGap gap) (word : IsWord handler) (behind : IsGap space) (clean : trimmed text ≡ text) (blank : AreBlanks after) where
   rest_text : parse_text w (first_word (gap ++ (handler ++ (space ++ (text ++ after))))) (trimmed (after_word (gap ++ (handler ++ (space ++ (text ++ after)))))) ≡ whole (text_command w handler text)
   rest_text =
@@ -237,7 +237,7 @@ same_bytes (x ∷ xs) (y ∷ ys) e =
     let others = same_bytes xs ys p.1 in
     cc
 
--- one more test, which both pass or neither
+-- one more test of the word, which both words pass or neither
 tested : (b : Bool) (s x y u : ParsedLine) → ((x ≡ u → ⊥) → y ≡ x) → ((if b then s else x) ≡ u → ⊥) → (if b then s else y) ≡ (if b then s else x)
 tested true s x y u f h = refl
 tested false s x y u f h = f h

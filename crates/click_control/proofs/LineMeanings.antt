@@ -1,4 +1,4 @@
--- Lemmas on what a line says.
+-- Lemmas on the meaning of a line.
 use Rattle.std.proofs.Common.{◌≡◌, ℕ, zero, suc, ◌≤◌, ◌<◌, List, [], ◌∷◌, Bool, true, false, leb, length, Option, Some, None, Result, Ok, Err, refl, sym, ap, ◌∙◌, subst, inl, inr, arith, codes}
 use Rattle.std.proofs.lemmas.Bool.{cases_Bool, leb-true, le-leb}
 use Rattle.std.specs.Prelude.{if◌then◌else◌}
@@ -13,7 +13,7 @@ use Rattle.click_control.specs.declared.command.Command.TheVariants as command
 use Rattle.click_control.specs.Commands.{ParsedLine, blank, whole, announces, payload_line, parse_data, parse_text, parse_check, parse_after, parse_unless_blank, parse_line, first_word, second_word, third_word, after_word, longest_payload}
 use Rattle.click_control.specs.kept.Lines.{bad_count}
 
--- ---- a payload that is announced has a byte, and no more than it may
+-- ---- a payload that is announced has at least 1 byte, and at most the maximum
 
 abbrev pub Sound : ParsedLine → Type 0
 Sound blank = Unit {0}
@@ -68,7 +68,7 @@ pub payload_line-some : (w : Direction) (handler : List ℕ) (n : ℕ) → 0 < n
 payload_line-some w handler zero some small = absurd (omega arith)
 payload_line-some w handler (suc n) some small = rw (le-leb (suc n) longest_payload small) refl
 
--- what a number, or what is wrong with it, makes of a line
+-- the meaning of a line with this payload length, or with this fault in it
 abbrev pub announced_by : Direction → List ℕ → Result ℕ ArgFault → ParsedLine
 announced_by w handler (Ok n) = payload_line w handler (Some n)
 announced_by w handler (Err f) = whole (bad_count f)

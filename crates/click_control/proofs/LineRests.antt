@@ -1,4 +1,4 @@
--- Lemmas on what follows a line with its end.
+-- Lemmas on the bytes that follow a line and its end.
 use Rattle.std.proofs.Common.{◌≡◌, ℕ, ◌<◌, ◌≤◌, List, [], ◌∷◌, ◌++◌, true, false, length, refl, sym, ap, ◌∙◌, append-nil, inl, inr, arith}
 use Rattle.click_control.specs.declared.direction.Direction.{Direction}
 use Rattle.click_control.specs.declared.command.Command.{Command}
@@ -20,7 +20,7 @@ no_feed_after_return : (more : List ℕ) → BeginsNoFeed more → commands_from
 no_feed_after_return [] h = commands_from-nil after_return ∙ sym (commands_from-nil (in_line []))
 no_feed_after_return (b ∷ bs) h = other_after_return b bs h
 
--- a line that the next one follows
+-- a line after which another line begins
 follows : (line e more : List ℕ) (s : ParsedLine) → IsLineOf line → IsEndBefore e more → parse_line line ≡ s → ((b : ℕ) → after_line s b ≡ after_end b)
     → commands (line ++ (e ++ more)) ≡ listed s ++ commands more
 follows line e more s is end says next = elim end [
@@ -31,7 +31,7 @@ follows line e more s is end says next = elim end [
       ∙ ap (λ cs. listed s ++ cs) (no_feed_after_return more p.1))
 ]
 
--- a line that nothing follows
+-- a line after which nothing is read
 ends_all : (line e more : List ℕ) (s : ParsedLine) → IsLineOf line → IsEndBefore e more → parse_line line ≡ s → ((b : ℕ) → after_line s b ≡ over)
     → commands (line ++ (e ++ more)) ≡ listed s
 ends_all line e more s is end says last =

@@ -1,4 +1,4 @@
--- Lemmas on lines and payloads that have not come whole.
+-- Lemmas on lines and payloads that are incomplete.
 use Rattle.std.proofs.Common.{◌≡◌, ℕ, ◌-◌, ◌<◌, List, [], ◌∷◌, ◌++◌, length, refl, sym, ap, ◌∙◌, append_assoc, append-nil, inl, inr, arith}
 use Rattle.click_control.specs.declared.direction.Direction.{Direction}
 use Rattle.click_control.specs.Commands.{in_line, in_payload, announces, parse_line, commands, commands_from, IsEndBefore}

@@ -1,4 +1,4 @@
--- The lines of replies, as a session writes them.
+-- Lemmas on the lines of replies, as a session writes them.
 use Rattle.std.proofs.Common.{◌≡◌, ℕ, List, [], ◌++◌, append_assoc, sym, ap, ◌∙◌}
 use Rattle.std.specs.Prelude.{codes}
 use Rattle.click_control.specs.declared.direction.Direction.{Direction}
@@ -8,7 +8,7 @@ use Rattle.click_control.specs.declared.command.Command.TheVariants as command
 use Rattle.click_control.specs.declared.command.Answer.{Answer}
 use Rattle.click_control.specs.ReplyText.{quoting, good_text, read_text, done_text, text_of}
 
--- what is written in two steps, behind room that was taken for both
+-- text that is written in two steps, after room for both was reserved
 regrouped : (text front name back rest : List ℕ) → (text ++ (front ++ (name ++ back))) ++ rest ≡ text ++ (front ++ (name ++ (back ++ rest)))
 regrouped text front name back rest = simp append_assoc
 
@@ -17,7 +17,7 @@ pub joined : (text room front name back between rest : List ℕ) → room ≡ te
 joined text room front name back between rest e f =
     ap (λ t. t ++ rest) (f ∙ ap (λ t. t ++ (front ++ (name ++ back))) e) ∙ regrouped text front name back rest
 
--- the quotes stand in what is written around the name
+-- the quotes are part of the text that is written around the name
 unquoted : (name quote back line_end rest : List ℕ) → (((name ++ quote) ++ back) ++ line_end) ++ rest ≡ name ++ (quote ++ (back ++ (line_end ++ rest)))
 unquoted name quote back line_end rest = simp append_assoc
 
@@ -30,7 +30,7 @@ value_lines name digits bytes =
 pub good_write : (name : List ℕ) → codes "200 Write handler '" ++ (name ++ codes "' OK\r\n") ≡ good_text direction.Write name
 good_write name = simp append_assoc
 
--- two answers that read alike for each command are told alike
+-- if two answers give the same text for every command, they give the same text for a read
 pub read_alike : (name : List ℕ) (a b : Answer) → ((c : Command) → text_of c a ≡ text_of c b) → read_text name a ≡ read_text name b
 read_alike name a b e = e (command.Read name [])
 

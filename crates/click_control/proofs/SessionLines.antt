@@ -1,4 +1,4 @@
--- Lemmas on the lines that a session takes.
+-- Lemmas on the lines that a session takes up.
 use Rattle.std.proofs.Common.{◌≡◌, ℕ, ◌+◌, ◌≤◌, ◌<◌, List, [], ◌∷◌, ◌++◌, Bool, true, false, length, get_or, take, drop, ◌-◌, Option, Some, None, refl, sym, ap, ◌∙◌, subst, append_assoc, append-nil, drop-drop, length-drop, length-append, take_all, arith}
 use Rattle.std.specs.Prelude.{if◌then◌else◌}
 use Rattle.std.proofs.lemmas.List.{take_rest, drop_more, drop-append-le, take-append-le}
@@ -13,9 +13,9 @@ use Rattle.click_control.specs.Taking.{Pending, to_come, Gives, GivesOne}
 use Rattle.click_control.specs.kept.Lines.{Waits, IsPlaced, IsEnded, IsFirstLine, IsTaken, IsPartial, end_length, optional, reading_of}
 use Rattle.click_control.proofs.StreamCommands.{commands_from-partial, commands_from-over, commands_from-line, payload_after_end, payload_waits}
 
--- ---- what the first bytes hold
+-- ---- the content of the first bytes
 
--- what the commands are, once it is known what the line says
+-- the commands, once the meaning of the line is known
 line_says : (bytes more : List ℕ) (n : ℕ) (s : ParsedLine) → IsEnded bytes n → s ≡ parse_line (take n bytes)
     → commands_from (in_line []) (bytes ++ more) ≡ listed s ++ commands_from (after_line s (get_or bytes n 0)) (drop (n + 1) bytes ++ more)
 line_says bytes more n s ended is =
@@ -57,7 +57,7 @@ text_is_not_last : (w : Direction) (handler text : List ℕ) → is_last (text_c
 text_is_not_last direction.Read handler text = refl
 text_is_not_last direction.Write handler text = refl
 
--- the end of a line, and what follows it
+-- the end of a line, and the bytes after it
 ended_bytes : (bytes : List ℕ) (n : ℕ) → n < length bytes → drop n bytes ≡ get_or bytes n 0 ∷ drop (n + 1) bytes
 ended_bytes bytes n q = drop_more bytes n 0 q
 
@@ -113,23 +113,23 @@ partial_line bytes none short = record {
   waits = λ more few. absurd (omega (arith, few));
 }
 
--- ---- what a session makes of them
+-- ---- the commands that a session gives for these bytes
 
--- Before a line `n` bytes are skipped.
+-- A line begins after n bytes, which are skipped.
 abbrev pub Skips : Start → List ℕ → ℕ → Type 0
 Skips start bytes n = (n ≤ length bytes) × ((more : List ℕ) → commands_from (reading_of start) (bytes ++ more) ≡ commands_from (in_line []) (drop n bytes ++ more))
 
 abbrev pub pending : Reading → List ℕ → Pending
 pending r bytes = record { from = r; bytes = bytes }
 
--- what was found in a slice of the buffer was found in its items
+-- what holds of a slice of the buffer holds of the buffer's items
 pub skips_from : (d items : List ℕ) (start : Start) (at n : ℕ) → d ≡ items → Skips start (take (length d - at) (drop at d)) n → Skips start (drop at items) n
 skips_from d items start at n is h = subst (λ (l : List ℕ). Skips start (drop at l) n) is (subst (λ (l : List ℕ). Skips start l n) (take_rest d at) h)
 
 pub found_from : (d items : List ℕ) (at : ℕ) (f : FirstLine) → d ≡ items → IsFirstLine (take (length d - at) (drop at d)) f → IsFirstLine (drop at items) f
 found_from d items at f is h = subst (λ (l : List ℕ). IsFirstLine (drop at l) f) is (subst (λ (l : List ℕ). IsFirstLine l f) (take_rest d at) h)
 
--- what the next line's bytes give, the session gives
+-- a session gives the commands of the next line's bytes
 from_line : (items : List ℕ) (start : Start) (at n : ℕ) (old : Pending) → pending (reading_of start) (drop at items) ≡ old → Skips start (drop at items) n
     → (more : List ℕ) → to_come old more ≡ commands_from (in_line []) (drop (at + n) items ++ more)
 from_line items start at n old view skips more =
@@ -148,7 +148,7 @@ gives_partial items start at n searched wanted old view skips partial = (
   omega (arith, old_length items start at old view, length-drop at items, length-drop (at + n) items),
 )
 
--- a line that was taken, with its command c
+-- a line that was taken up, with its command c
 gives_taken : (items : List ℕ) (start : Start) (at n len : ℕ) (c : Option Command) (r : Reading) (old : Pending) → pending (reading_of start) (drop at items) ≡ old → Skips start (drop at items) n
     → IsTaken (drop (at + n) items) c len r → Gives old (pending r (drop (at + n + len) items)) (optional c)
 gives_taken items start at n len c r old view skips taken more =
@@ -175,7 +175,7 @@ gives_command items start at n len c r old view skips taken = record {
   last = λ h more. ap (λ q. commands_from q (drop (at + n + len) items ++ more)) (taken.last c refl h) ∙ commands_from-over (drop (at + n + len) items ++ more);
 }
 
--- ---- where a session stands in its buffer
+-- ---- the position of a session in its buffer
 
 waits_more : (r : Reading) (bytes piece : List ℕ) (wanted : ℕ) → Waits r bytes wanted → Waits r (bytes ++ piece) wanted
 waits_more r bytes piece wanted waits more few =
@@ -192,7 +192,7 @@ placed_more at searched wanted r items piece placed =
       waits = rw rest (waits_more r (drop at items) piece wanted placed.waits);
     }
 
--- a piece was taken in, or memory ran out
+-- a piece was appended, or the session ran out of memory
 pub placed_fed : (taken : Bool) (at searched wanted : ℕ) (r : Reading) (items piece next : List ℕ) → next ≡ (if taken then items ++ piece else items)
     → IsPlaced at searched wanted r items → IsPlaced at searched wanted r next
 placed_fed true at searched wanted r items piece next is placed = rw is (placed_more at searched wanted r items piece placed)

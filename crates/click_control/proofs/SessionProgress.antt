@@ -1,4 +1,4 @@
--- Lemmas on a session that goes on.
+-- Lemmas on a session in progress.
 use Rattle.std.proofs.Common.{◌≡◌, ℕ, ◌+◌, ◌≤◌, ◌<◌, List, [], ◌∷◌, ◌++◌, length, Bool, true, false, ◌||◌, Option, None, Some, Result, Ok, Err, refl, sym, ap, subst, ◌∙◌, inl, inr, append_assoc, append-nil, add-zero, add_assoc, length-append, arith}
 use Rattle.std.specs.Io.KnownBytes.{Keeps, Consumes}
 use Rattle.std.proofs.KnownBytes.{Consumes-nil, Consumes-trans, Appends-trans}
@@ -28,12 +28,12 @@ or-false false = refl
 pub commands-nil : commands [] ≡ []
 commands-nil = commands_from-nil (in_line [])
 
--- whether a fault is that a write failed
+-- whether a fault is a failed write
 abbrev is_failed : ServeFault → Bool
 is_failed fault.WriteFailed = true
 is_failed _ = false
 
--- ---- what was read and written between moments
+-- ---- the bytes that were read and written between moments
 
 Consumes-none : (a b : Option (List ℕ)) → Keeps a b → Consumes a b []
 Consumes-none None b h = tt
@@ -80,7 +80,7 @@ replies-push (d ∷ cs) [] c a e = absurd (omega arith)
 replies-push (d ∷ cs) (b ∷ answers) c a e =
     ap (λ t. text_of d b ++ t) (replies-push cs answers c a (omega arith)) ∙ sym (append_assoc (text_of d b) (replies cs answers) (text_of c a))
 
--- the replies to the first commands are a front of the replies to all
+-- the replies to the first commands are a prefix of the replies to all
 replies-front : (cs ds : List Command) (answers : List Answer) → (rest : List ℕ) × (replies (cs ++ ds) answers ≡ replies cs answers ++ rest)
 replies-front [] ds answers = (replies ds answers, refl)
 replies-front (c ∷ cs) ds [] = ([], refl)
@@ -88,7 +88,7 @@ replies-front (c ∷ cs) ds (a ∷ answers) =
     let more = replies-front cs ds answers in
     (more.0, ap (λ t. text_of c a ++ t) more.1 ∙ sym (append_assoc (text_of c a) (replies cs answers) more.0))
 
--- one answer more changes nothing of the replies to commands that have theirs
+-- one more answer does not change the replies to commands that have their answers
 replies-more : (cs : List Command) (answers more : List Answer) → length cs ≤ length answers → replies cs (answers ++ more) ≡ replies cs answers
 replies-more [] answers more h = refl
 replies-more (c ∷ cs) [] more h = absurd (omega arith)
@@ -97,7 +97,7 @@ replies-more (c ∷ cs) (a ∷ answers) more h = ap (λ t. text_of c a ++ t) (re
 read-push : (taken : List Command) (c : Command) (all rest more : List Command) → all ≡ taken ++ rest → rest ≡ c ∷ more → all ≡ (taken ++ c ∷ []) ++ more
 read-push taken c all rest more e f = e ∙ ap (λ l. taken ++ l) f ∙ sym (append_assoc taken (c ∷ []) more)
 
--- two lists with a last element each are equal only where the rest is
+-- two equal lists that each have a last element also have equal rests
 same_front : (xs ys : List Command) (x y : Command) → xs ++ x ∷ [] ≡ ys ++ y ∷ [] → xs ≡ ys
 same_front [] [] x y e = refl
 same_front [] (z ∷ ys) x y e = absurd (omega (arith, ap length e, length-append ys (y ∷ [])))
@@ -107,14 +107,15 @@ same_front (z ∷ xs) (w ∷ ys) x y e =
     let tail : xs ++ x ∷ [] ≡ ys ++ y ∷ [] = cc in
     ap (λ k. k ∷ xs) head ∙ ap (λ l. w ∷ l) (same_front xs ys x y tail)
 
--- where all replies were written, those to all commands but the last were
+-- if all replies are written, the replies to all commands except the last are
 written-whole : (taken : List Command) (answers : List Answer) (output : List ℕ) → output ≡ greeting ++ replies taken answers
     → (earlier : List Command) (last : Command) → taken ≡ earlier ++ last ∷ [] → (rest : List ℕ) × (output ≡ greeting ++ replies earlier answers ++ rest)
 written-whole taken answers output e earlier last is =
     let more = replies-front earlier (last ∷ []) answers in
     (more.0, e ∙ ap (λ l. greeting ++ replies l answers) is ∙ ap (λ l. greeting ++ l) more.1 ∙ sym (append_assoc greeting (replies earlier answers) more.0))
 
--- where all replies were written but part of the last, too
+-- if all replies are written, and then a part of the reply to one more command, the replies to all
+-- commands except this one are
 written-part : (taken : List Command) (c : Command) (answers : List Answer) (a : Answer) (output front : List ℕ) → length taken ≡ length answers
     → output ≡ greeting ++ replies taken answers
     → (earlier : List Command) (last : Command) → taken ++ c ∷ [] ≡ earlier ++ last ∷ []
@@ -165,7 +166,7 @@ module _ {P : Type 0} (asks : P → Call → Result Reply AskFault → P → Typ
     turned = h.turned;
   }
 
-  -- what was read is the commands taken up and those still to come
+  -- the commands that were read are those taken up and those still to come
   all-read : (old now : P) (was is : T) (had left : Input) (held holds : Output) (s : Pending) (n reads : ℕ)
       → (h : SoFar asks turn done readonly most old now was is had left held holds s n reads) → commands h.input ≡ h.taken ++ to_come s []
   all-read old now was is had left held holds s n reads h = ap commands (sym (append-nil h.input)) ∙ h.spelled []
@@ -175,7 +176,7 @@ module _ {P : Type 0} (asks : P → Call → Result Reply AskFault → P → Typ
   all-taken old now was is had left held holds s n reads h none =
       all-read old now was is had left held holds s n reads h ∙ ap (λ l. h.taken ++ l) none
 
-  -- some bytes were read, and memory ran out
+  -- some bytes were read, and the session ran out of memory
   Serves-short : (old now : P) (was is : T) (had left then : Input) (held holds : Output) (s : Pending) (n reads more : ℕ) (piece : List ℕ)
       → SoFar asks turn done readonly most old now was is had left held holds s n reads → HasRead left then piece more false → reads + more ≤ most
       → ServesTurns asks turn done readonly most old now was is had then held holds (Err fault.NoMemory)
@@ -206,7 +207,7 @@ module _ {P : Type 0} (asks : P → Call → Result Reply AskFault → P → Typ
     turned = inl (turned-all old now was is had left held holds s n reads h, inr h.whole);
   }
 
-  -- nothing was done, and memory ran out
+  -- nothing was done, and the session ran out of memory
   pub Serves-no_memory : (old now : P) (was is : T) (had left : Input) (held holds : Output) (s : Pending) (n reads : ℕ)
       → SoFar asks turn done readonly most old now was is had left held holds s n reads
       → ServesTurns asks turn done readonly most old now was is had left held holds (Err fault.NoMemory)
@@ -237,7 +238,7 @@ module _ {P : Type 0} (asks : P → Call → Result Reply AskFault → P → Typ
     turned = (is, turned-all old now was is had left held holds s n reads h, subst (λ (k : ℕ). turn is (k + 1) false refused) (sym h.counted) step);
   }
 
-  -- a front of a reply was written after all earlier replies
+  -- a prefix of a reply was written after all earlier replies
   part-front : (old now : P) (was is : T) (had left : Input) (held holds : Output) (s : Pending) (n reads : ℕ) (c : Command) (a : Answer) (more : List Command)
       (failed : Bool) (front rest : List ℕ) → (h : SoFar asks turn done readonly most old now was is had left held holds s n reads) → text_of c a ≡ front ++ rest
       → IsFront (record {
@@ -259,7 +260,7 @@ module _ {P : Type 0} (asks : P → Call → Result Reply AskFault → P → Typ
     all_but_last = written-part h.taken c h.answers a h.output front (Asked-length asks readonly old h.taken h.answers now h.asked) h.whole;
   }
 
-  -- one more is counted
+  -- the count grows by one
   counted-push : (taken : List Command) (c : Command) (n : ℕ) → length taken ≡ n → length (taken ++ c ∷ []) ≡ n + 1
   counted-push taken c n e = omega (arith, e, length-append taken (c ∷ []))
 
@@ -438,7 +439,7 @@ module _ {P : Type 0} (asks : P → Call → Result Reply AskFault → P → Typ
         turned = h.turned;
       }
 
-  -- all commands that were read are answered, and so many reads more gave no byte
+  -- all commands that were read are answered, and `more` further reads returned no byte
   Serves-whole : (result : Result Ended ServeFault) (old now : P) (was is : T) (had left then : Input) (held holds : Output) (s : Pending) (n reads more : ℕ) (failed : Bool)
       → (h : SoFar asks turn done readonly most old now was is had left held holds s n reads) → to_come s [] ≡ []
       → HasRead left then [] more failed → reads + more ≤ most
@@ -485,7 +486,7 @@ module _ {P : Type 0} (asks : P → Call → Result Reply AskFault → P → Typ
       Serves-short old now was is had left then held holds s n reads 1 took.0 h took.1 (omega (arith, room))
   Serves-read fault.WriteFailed old now was is had left then held holds s t n reads h none room took = absurd took
 
-  -- all the reads are used up
+  -- the maximum number of reads was made
   pub Serves-spent : (old now : P) (was is : T) (had left : Input) (held holds : Output) (s : Pending) (n reads : ℕ)
       → SoFar asks turn done readonly most old now was is had left held holds s n reads → to_come s [] ≡ [] → most ≤ reads
       → ServesTurns asks turn done readonly most old now was is had left held holds (Err fault.ReadFailed)

@@ -8,7 +8,7 @@ use Rattle.click_control.specs.Taking.{Pending, to_come, fed}
 use Rattle.click_control.specs.declared.direction.Direction.{Direction}
 use Rattle.click_control.specs.kept.Lines.{end_length}
 
--- where the reading stands after these bytes
+-- the position of the reading after these bytes
 abbrev pub reading_after : Reading → List ℕ → Reading
 reading_after r [] = r
 reading_after r (b ∷ bs) = reading_after (after_byte r b) bs
@@ -79,7 +79,7 @@ split_at bytes n q = sym (take-append-drop n bytes) ∙ ap (λ l. take n bytes +
 split_more : (bytes more : List ℕ) (n : ℕ) → n < length bytes → bytes ++ more ≡ take n bytes ++ (get_or bytes n 0 ∷ (drop (n + 1) bytes ++ more))
 split_more bytes more n q = ap (λ l. l ++ more) (split_at bytes n q) ∙ append_assoc (take n bytes) (get_or bytes n 0 ∷ drop (n + 1) bytes) more
 
--- a line that has its end
+-- a line with its end
 pub commands_from-line : (bytes more : List ℕ) (n : ℕ) → n < length bytes → n ≤ longest_line → HasNoEnd (take n bytes) → is_end (get_or bytes n 0) ≡ true
     → commands_from (in_line []) (bytes ++ more) ≡ listed (parse_line (take n bytes)) ++ commands_from (after_line (parse_line (take n bytes)) (get_or bytes n 0)) (drop (n + 1) bytes ++ more)
 commands_from-line bytes more n q short h e =
@@ -99,7 +99,7 @@ commands_from-long bytes more m n is long q h =
     ∙ commands_from-within [] (take m bytes) (get_or bytes m 0 ∷ (drop (m + 1) bytes ++ more)) front (omega arith)
     ∙ commands_from-beyond (take m bytes) (get_or bytes m 0) (drop (m + 1) bytes ++ more) next (omega arith)
 
--- a line whose end has not come yields nothing
+-- a line whose end has not come gives no command
 pub commands_from-partial : (bytes : List ℕ) → HasNoEnd bytes → length bytes ≤ longest_line → commands_from (in_line []) bytes ≡ []
 commands_from-partial bytes h q =
     ap (λ l. commands_from (in_line []) l) (sym (append-nil bytes)) ∙ commands_from-within [] bytes [] h (omega arith) ∙ commands_from-nil (in_line bytes)
@@ -134,7 +134,7 @@ commands_from-empty r (b ∷ bytes) h = absurd (omega (arith, eqb-true (length (
 
 -- ---- a search for the end of a line
 
--- no end stands before s, and none from there up to n
+-- no line end is before s, and none from there up to n
 pub HasNoEnd-more : (bytes : List ℕ) (s n : ℕ) → s ≤ n → n ≤ length bytes → HasNoEnd (take s bytes) → ((k : ℕ) → s + k < n → is_end (get_or (drop s bytes) k 0) ≡ false) → HasNoEnd (take n bytes)
 HasNoEnd-more bytes s n low high h more =
     HasNoEnd-from (take n bytes) (λ j q.
@@ -171,7 +171,7 @@ completed_before w handler came n x q = rw (lt-leb n 1 q) refl
 after_before : (w : Direction) (handler came : List ℕ) (n x : ℕ) → 1 < n → after_payload_byte w handler n came x ≡ in_payload w handler (n - 1) (came ++ x ∷ [])
 after_before w handler came n x q = rw (lt-leb n 1 q) refl
 
--- one byte of a payload that is not the last
+-- one byte of a payload that is not the last one
 pub payload_step : (w : Direction) (handler came : List ℕ) (n x : ℕ) (ys : List ℕ) → 1 < n
     → commands_from (in_payload w handler n came) (x ∷ ys) ≡ commands_from (in_payload w handler (n - 1) (came ++ x ∷ [])) ys
 unfolding commands_from
@@ -196,14 +196,14 @@ payload_whole w handler came (x ∷ y ∷ xs) ys n e q =
     ∙ payload_whole w handler (came ++ x ∷ []) (y ∷ xs) ys (n - 1) (omega (arith, e)) (omega (arith, e))
     ∙ ap (λ t. text_command w handler t ∷ commands_from (in_line []) ys) (append_assoc came (x ∷ []) (y ∷ xs))
 
--- the first bytes of what follows are a payload
+-- the first bytes of those that follow are a payload
 pub payload_cut : (w : Direction) (handler xs more : List ℕ) (n : ℕ) → 0 < n → n ≤ length xs
     → commands_from (in_payload w handler n []) (xs ++ more) ≡ text_command w handler (take n xs) ∷ commands_from (in_line []) (drop n xs ++ more)
 payload_cut w handler xs more n q within =
     ap (λ l. commands_from (in_payload w handler n []) l) (ap (λ l. l ++ more) (sym (take-append-drop n xs)) ∙ append_assoc (take n xs) (drop n xs) more)
     ∙ payload_whole w handler [] (take n xs) (drop n xs ++ more) n (length-take-le n xs within) q
 
--- a payload that has not come to its last byte
+-- an incomplete payload
 pub payload_part : (w : Direction) (handler came xs : List ℕ) (n : ℕ) → length xs < n → commands_from (in_payload w handler n came) xs ≡ []
 payload_part w handler came [] n q = commands_from-nil (in_payload w handler n came)
 payload_part w handler came (x ∷ xs) n q =
@@ -229,7 +229,7 @@ after_a_return : (w : Direction) (handler : List ℕ) (n e : ℕ) (ys : List ℕ
     → commands_from (payload_after w handler n e) ys ≡ commands_from (before_payload w handler n) ys
 after_a_return w handler n e ys h = rw h refl
 
--- an end of one byte, after which a byte comes
+-- a line end of one byte, after which a byte comes
 end_of_one : (w : Direction) (handler : List ℕ) (n e b : ℕ) (ys : List ℕ) → (eqb e 13 && eqb b 10) ≡ false
     → commands_from (payload_after w handler n e) (b ∷ ys) ≡ commands_from (in_payload w handler n []) (b ∷ ys)
 end_of_one w handler n e b ys h = elim (cases_Bool (eqb e 13)) [

@@ -8,7 +8,7 @@ use Rattle.click_base.specs.Blanks.{is_blank}
 use Rattle.click_base.specs.Dotted.{is_dot}
 use Rattle.click_control.specs.Commands.{from_blank}
 
--- the bytes that are no blanks
+-- the bytes that are not blanks
 abbrev pub no_blank : ℕ → Bool
 no_blank b = not (is_blank b)
 

@@ -15,7 +15,7 @@ abbrev pub from_blank : List ℕ → List ℕ
 from_blank [] = []
 from_blank (b ∷ bs) = if is_blank b then b ∷ bs else from_blank bs
 
--- the first word of a line, and what follows it
+-- the first word of a line, without the blanks before it; `after_word` is the rest after this word
 abbrev pub first_word : List ℕ → List ℕ
 first_word line = take_while (λ b. not (is_blank b)) (without_front line)
 
@@ -28,22 +28,23 @@ second_word line = first_word (after_word line)
 abbrev pub third_word : List ℕ → List ℕ
 third_word line = second_word (after_word line)
 
--- ---- what a line says
+-- ---- the meaning of a line
 
--- how many bytes a line may have before its end, and a payload
+-- the maximum number of bytes of a line before its end; of a payload
 abbrev pub longest_line : ℕ
 longest_line = 65536
 
 abbrev pub longest_payload : ℕ
 longest_payload = 1048576
 
--- a line is blank, or it is a whole command, or it announces a payload of so many bytes, one or more, for a handler
+-- The meaning of a line: it is blank, it is a whole command, or it announces a payload for a
+-- handler. The number is the payload's length in bytes, at least 1.
 pub data ParsedLine : Type 0 where
   blank : ParsedLine
   whole : Command → ParsedLine
   announces : Direction → List ℕ → ℕ → ParsedLine
 
--- the command that hands a handler a text
+-- the command that reads or writes a handler with a text
 abbrev pub text_command : Direction → List ℕ → List ℕ → Command
 text_command direction.Read handler text = command.Read handler text
 text_command direction.Write handler text = command.Write handler text
@@ -52,29 +53,31 @@ abbrev pub check_command : Direction → List ℕ → Command
 check_command direction.Read handler = command.CheckRead handler
 check_command direction.Write handler = command.CheckWrite handler
 
--- `READ` or `WRITE`: a handler, and a text
+-- a line of `READ` or `WRITE`: a handler, and a text
 abbrev pub parse_text : Direction → List ℕ → List ℕ → ParsedLine
 parse_text w [] text = whole command.Syntax
 parse_text w (b ∷ handler) text = whole (text_command w (b ∷ handler) text)
 
--- `CHECKREAD` or `CHECKWRITE`: a handler, and no second word
+-- a line of `CHECKREAD` or `CHECKWRITE`: a handler, and no second word
 abbrev pub parse_check : Direction → List ℕ → List ℕ → ParsedLine
 parse_check w [] second = whole command.Syntax
 parse_check w (b ∷ handler) [] = whole (check_command w (b ∷ handler))
 parse_check w (b ∷ handler) (c ∷ second) = whole command.Syntax
 
--- a payload of so many bytes; of none, the command is whole
+-- a line that announces a payload of this length; with length 0 it is a whole command
 abbrev pub payload_line : Direction → List ℕ → Option ℕ → ParsedLine
 payload_line w handler None = whole command.Syntax
 payload_line w handler (Some zero) = whole (text_command w handler [])
 payload_line w handler (Some (suc n)) = if nat_le (suc n) longest_payload then announces w handler (suc n) else whole command.DataTooLong
 
--- `READDATA` or `WRITEDATA`: a handler, the payload's length in decimal digits alone, and no third word
+-- a line of `READDATA` or `WRITEDATA`: a handler, the payload's length in decimal digits, and no
+-- third word
 abbrev pub parse_data : Direction → List ℕ → List ℕ → List ℕ → ParsedLine
 parse_data w handler count [] = payload_line w handler (digits count)
 parse_data w handler count (b ∷ third) = whole command.Syntax
 
--- what a line says, whose first word is this, and which goes on so; case does not matter in that word
+-- The meaning of a line with this first word and this rest. The case of the first word does not
+-- matter.
 abbrev pub parse_after : List ℕ → List ℕ → ParsedLine
 parse_after word rest =
     if str_eq_ignore_ascii_case word (codes "READ") then parse_text direction.Read (first_word rest) (trimmed (after_word rest))
@@ -96,7 +99,7 @@ parse_line line = parse_unless_blank (first_word line) (after_word line)
 
 -- ---- the commands of a stream
 
--- a command that nothing follows
+-- whether a command is the last one of its session
 abbrev pub is_last : Command → Bool
 is_last (command.Read handler text) = false
 is_last (command.Write handler text) = false
@@ -108,8 +111,12 @@ is_last command.LineTooLong = true
 is_last command.DataTooLong = true
 is_last (command.Unknown word) = false
 
--- Where the reading of a stream stands: in a line that begins so; after a CR that ended a line; after a CR that ended a line which announced a payload of
--- so many bytes; in a payload, of which so many bytes are still to come, and these came; or after the last command.
+-- The position of the reading in a stream:
+-- `in_line`: in a line that begins with these bytes.
+-- `after_return`: after a CR that ended a line.
+-- `before_payload`: after a CR that ended a line which announced a payload of this length.
+-- `in_payload`: in a payload, after these bytes of it. This number of bytes is still to come.
+-- `over`: after the last command of the session.
 pub data Reading : Type 0 where
   in_line : List ℕ → Reading
   after_return : Reading
@@ -121,37 +128,39 @@ pub data Reading : Type 0 where
 abbrev pub is_end : ℕ → Bool
 is_end b = nat_eq b 10 || nat_eq b 13
 
--- no byte of these ends a line
+-- none of these bytes ends a line
 abbrev pub HasNoEnd : List ℕ → Type 0
 HasNoEnd [] = Unit {0}
 HasNoEnd (b ∷ bs) = (is_end b ≡ false) × HasNoEnd bs
 
--- the command that is whole at the end of a line that says this
+-- the command that a line with this meaning gives at its end, if it gives one there
 abbrev pub listed : ParsedLine → List Command
 listed blank = []
 listed (whole c) = c ∷ []
 listed (announces w handler n) = []
 
--- an LF right after a CR belongs to the line end
+-- the position after a line end with this first byte: an LF right after a CR belongs to the same
+-- end
 abbrev pub after_end : ℕ → Reading
 after_end b = if nat_eq b 13 then after_return else in_line []
 
--- the same where a payload follows
+-- the position after the end of a line that announced a payload
 abbrev pub payload_after : Direction → List ℕ → ℕ → ℕ → Reading
 payload_after w handler n b = if nat_eq b 13 then before_payload w handler n else in_payload w handler n []
 
--- where the reading stands after a line that says this, with this end
+-- the position after a line with this meaning, whose end has this first byte
 abbrev pub after_line : ParsedLine → ℕ → Reading
 after_line blank b = after_end b
 after_line (whole c) b = if is_last c then over else after_end b
 after_line (announces w handler n) b = payload_after w handler n b
 
--- the command that is whole with the next byte of a line that begins so: at its end, or where it becomes too long
+-- the command that the next byte of a line completes: the byte ends the line, or is its 65,537th
 abbrev pub completed_in : List ℕ → ℕ → List Command
 completed_in line b =
     if is_end b then listed (parse_line line) else if nat_le longest_line (length line) then command.LineTooLong ∷ [] else []
 
--- with the next byte of a payload, of which so many are still to come: with the last of them
+-- the command that the next byte of a payload completes: n bytes are still to come, and this is the
+-- last one
 abbrev pub completed_payload : Direction → List ℕ → ℕ → List ℕ → ℕ → List Command
 completed_payload w handler n came b = if nat_le n 1 then text_command w handler (came ++ b ∷ []) ∷ [] else []
 
@@ -162,12 +171,12 @@ completed (before_payload w handler n) b = if nat_eq b 10 then [] else completed
 completed (in_payload w handler n came) b = completed_payload w handler n came b
 completed over b = []
 
--- where the reading stands after the next byte
+-- the position after the next byte of a line
 abbrev pub after_byte_in : List ℕ → ℕ → Reading
 after_byte_in line b =
     if is_end b then after_line (parse_line line) b else if nat_le longest_line (length line) then over else in_line (line ++ b ∷ [])
 
--- right after a payload a line begins
+-- the position after the next byte of a payload: after its last byte a line begins
 abbrev pub after_payload_byte : Direction → List ℕ → ℕ → List ℕ → ℕ → Reading
 after_payload_byte w handler n came b = if nat_le n 1 then in_line [] else in_payload w handler (n - 1) (came ++ b ∷ [])
 
@@ -178,7 +187,7 @@ after_byte (before_payload w handler n) b = if nat_eq b 10 then in_payload w han
 after_byte (in_payload w handler n came) b = after_payload_byte w handler n came b
 after_byte over b = over
 
--- the whole commands of the bytes that follow
+-- the whole commands of the bytes that follow this position
 unfoldable pub commands_from : Reading → List ℕ → List Command
 commands_from r [] = []
 commands_from r (b ∷ bs) = completed r b ++ commands_from (after_byte r b) bs
@@ -189,11 +198,11 @@ commands bytes = commands_from (in_line []) bytes
 
 -- ---- the three ends of a line
 
--- no LF stands in front of these bytes
+-- these bytes do not begin with LF
 abbrev pub BeginsNoFeed : List ℕ → Type 0
 BeginsNoFeed [] = Unit {0}
 BeginsNoFeed (b ∷ bs) = nat_eq b 10 ≡ false
 
--- a whole end of a line, before these bytes: LF, CR LF, or a CR that no LF follows
+-- a whole line end before these bytes: LF, CR LF, or a CR that no LF follows
 abbrev pub IsEndBefore : List ℕ → List ℕ → Type 0
 IsEndBefore e more = (e ≡ codes "\n") ⊎ (e ≡ codes "\r\n") ⊎ ((e ≡ codes "\r") × BeginsNoFeed more)

@@ -1,4 +1,4 @@
--- The words of a line, and what stands between them.
+-- The words of a line, and the bytes between them.
 use Rattle.std.specs.Prelude.{◌≡◌, ℕ, ◌<◌, List, [], ◌∷◌, length, true, not, codes}
 use Rattle.std.specs.List.{list_all}
 use Rattle.click_base.specs.Blanks.{is_blank}
@@ -8,30 +8,30 @@ use Rattle.click_control.specs.declared.direction.Direction.TheVariants as direc
 abbrev pub AreBlanks : List ℕ → Type 0
 AreBlanks bs = list_all is_blank bs ≡ true
 
--- one blank or more
+-- one or more blanks
 abbrev pub IsGap : List ℕ → Type 0
 IsGap bs = (0 < length bs) × AreBlanks bs
 
--- one byte or more, and no blank
+-- one or more bytes, none of them a blank
 abbrev pub IsWord : List ℕ → Type 0
 IsWord w = (0 < length w) × (list_all (λ b. not (is_blank b)) w ≡ true)
 
--- nothing, or a blank and more
+-- no bytes, or bytes that begin with a blank
 abbrev pub EndsWord : List ℕ → Type 0
 EndsWord [] = Unit {0}
 EndsWord (b ∷ bs) = is_blank b ≡ true
 
--- the word that a line begins with which hands a handler a text
+-- the first word of a line that reads or writes a handler with a text
 abbrev pub text_word : Direction → List ℕ
 text_word direction.Read = codes "READ"
 text_word direction.Write = codes "WRITE"
 
--- which asks whether a handler can be used so
+-- the first word of a line that asks whether a handler can be read or written
 abbrev pub check_word : Direction → List ℕ
 check_word direction.Read = codes "CHECKREAD"
 check_word direction.Write = codes "CHECKWRITE"
 
--- which announces a payload
+-- the first word of a line that announces a payload
 abbrev pub data_word : Direction → List ℕ
 data_word direction.Read = codes "READDATA"
 data_word direction.Write = codes "WRITEDATA"

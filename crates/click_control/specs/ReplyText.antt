@@ -1,4 +1,5 @@
--- The text that answers a command (Click manual, "ControlSocket": three digits, and a space on the last line).
+-- The text that answers a command (Click manual, "ControlSocket"). Each line begins with three
+-- digits, and the last line of a reply has a space after them.
 use Rattle.std.specs.Prelude.{ℕ, List, [], ◌++◌, length, codes, decimal}
 use Rattle.std.specs.List.{before_last}
 use Rattle.click_handlers.specs.Answers.{fault_text}
@@ -23,21 +24,22 @@ greeting = codes "Click::ControlSocket/1.3\r\n"
 abbrev pub quoting : List ℕ → List ℕ → List ℕ → List ℕ
 quoting front name back = front ++ codes "'" ++ name ++ codes "'" ++ back ++ codes "\r\n"
 
--- what was read: its length, and then just its bytes
+-- a value that was read: its length, and then exactly its bytes
 abbrev pub data_text : List ℕ → List ℕ
 data_text bytes = codes "DATA " ++ decimal (length bytes) ++ codes "\r\n" ++ bytes
 
--- what a handler, or a configuration, finds wrong: which handler it is, and the fault's text
+-- the lines of a fault that a handler or a configuration has: the handler's name, and the fault's
+-- text
 abbrev pub error_text : Direction → List ℕ → List ℕ → List ℕ
 error_text direction.Read handler fault = quoting (codes "520-Read handler ") handler (codes " error:") ++ codes "520 " ++ fault ++ codes "\r\n"
 error_text direction.Write handler fault = quoting (codes "520-Write handler ") handler (codes " error:") ++ codes "520 " ++ fault ++ codes "\r\n"
 
--- the line of a read or a write that is good
+-- the first line of a successful read, or the line of a successful write or check
 abbrev pub good_text : Direction → List ℕ → List ℕ
 good_text direction.Read handler = quoting (codes "200 Read handler ") handler (codes " OK")
 good_text direction.Write handler = quoting (codes "200 Write handler ") handler (codes " OK")
 
--- why a read or a write was refused
+-- the reason why a read or a write was refused
 abbrev pub refused_text : Direction → List ℕ → Refusal → List ℕ
 refused_text w handler refusal.NoElement = quoting (codes "510 No element named ") (before_last is_dot handler) []
 refused_text w handler refusal.NoHandler = quoting (codes "511 No handler named ") handler []
@@ -46,17 +48,18 @@ refused_text direction.Write handler refusal.WrongWay = quoting (codes "530 Hand
 refused_text w handler (refusal.Handler f) = error_text w handler (fault_text f)
 refused_text w handler (refusal.Config f) = error_text w handler (config.fault_text f)
 
--- why there was no reply
+-- the reason why a call failed
 abbrev pub failed_text : AskFault → List ℕ
 failed_text ask.NoMemory = codes "520 Out of memory\r\n"
 failed_text ask.HistoryFull = codes "520 History full\r\n"
 
--- where a session may not make the call: it may always read
+-- the denial of a command that a read-only session may not make; a read is never denied
 abbrev pub denied_text : Direction → List ℕ → List ℕ
 denied_text direction.Read handler = []
 denied_text direction.Write handler = quoting (codes "530 Permission denied for ") handler []
 
--- the answer to a read of a handler: its value, or why it has none; no text for the replies that only other calls have
+-- the answer to a read of a handler: its value, or the reason why it has none. There is no text for
+-- the replies that only other calls get.
 abbrev pub read_text : List ℕ → Answer → List ℕ
 read_text handler (answer.Replied (reply.Value bytes)) = good_text direction.Read handler ++ data_text bytes
 read_text handler (answer.Replied reply.Done) = []
@@ -68,7 +71,7 @@ read_text handler (answer.Replied reply.NoDevice) = []
 read_text handler (answer.Failed f) = failed_text f
 read_text handler answer.NoCall = denied_text direction.Read handler
 
--- the answer to a write, and to the question whether a handler can be used that way
+-- the answer to a write, or to the question whether a handler can be read or written
 abbrev pub done_text : Direction → List ℕ → Answer → List ℕ
 done_text w handler (answer.Replied (reply.Value bytes)) = []
 done_text w handler (answer.Replied reply.Done) = good_text w handler
@@ -80,12 +83,13 @@ done_text w handler (answer.Replied reply.NoDevice) = []
 done_text w handler (answer.Failed f) = failed_text f
 done_text w handler answer.NoCall = denied_text w handler
 
--- of a command that makes no call
+-- the answer to a command that makes no call
 abbrev pub uncalled_text : Answer → List ℕ → List ℕ
 uncalled_text answer.NoCall text = text
 uncalled_text (answer.Replied r) text = []
 uncalled_text (answer.Failed f) text = []
 
+-- the text that answers a command
 abbrev pub text_of : Command → Answer → List ℕ
 text_of (command.Read handler text) a = read_text handler a
 text_of (command.Write handler text) a = done_text direction.Write handler a

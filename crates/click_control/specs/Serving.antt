@@ -1,4 +1,4 @@
--- A whole session: what it asked, and what it wrote.
+-- A whole session: the calls that it made, and the bytes that it wrote.
 use Rattle.std.specs.Prelude.{◌≡◌, ◌⊎◌, ℕ, ◌+◌, ◌≤◌, ◌<◌, List, [], ◌∷◌, ◌++◌, length, All, Bool, true, false, Option, Some, None, Result, Ok, Err, if◌then◌else◌}
 use Rattle.std.specs.Io.KnownBytes.{IsAtEnd}
 use Rattle.click_router.specs.declared.call.Call.{Call}
@@ -17,7 +17,8 @@ use Rattle.click_control.specs.Commands.{commands, is_last}
 use Rattle.click_control.specs.Peers.{Input, Output, HasRead, HasWritten}
 use Rattle.click_control.specs.ReplyText.{greeting, text_of}
 
--- the call that a command makes; a read-only session makes none that would write, and does not ask whether it could
+-- The call that a command makes. A read-only session makes none for a write, nor for the question
+-- whether a handler can be written.
 abbrev pub call_of : Bool → Command → Option Call
 call_of readonly (command.Read handler text) = Some (call.Read handler text)
 call_of readonly (command.Write handler text) = if readonly then None else Some (call.Write handler text)
@@ -29,45 +30,50 @@ call_of readonly command.LineTooLong = None
 call_of readonly command.DataTooLong = None
 call_of readonly (command.Unknown word) = None
 
--- what a port answered
+-- a port's result, as an answer
 abbrev pub answer_of : Result Reply AskFault → Answer
 answer_of (Ok r) = answer.Replied r
 answer_of (Err f) = answer.Failed f
 
--- A port that asks as `asks` says goes from one state to another by the call, if there is one, and this is its answer.
+-- The effect of a call on a port whose calls act as `asks` says: the port before it, the call, the
+-- answer, and the port after it. If there is no call, the port is unchanged.
 abbrev pub Answered : {P : Type 0} → (P → Call → Result Reply AskFault → P → Type 0) → P → Option Call → Answer → P → Type 0
 Answered asks p None a q = (a ≡ answer.NoCall) × (q ≡ p)
 Answered asks p (Some c) a q = (r : Result Reply AskFault) × asks p c r q × (a ≡ answer_of r)
 
--- The port goes by one ask after another through the calls of these commands, with these answers.
+-- The port makes the calls of these commands, one after another, and gives these answers.
 pub data Asked {P : Type 0} (asks : P → Call → Result Reply AskFault → P → Type 0) (readonly : Bool) : P → List Command → List Answer → P → Type 0 where
   nothing : (p : P) → Asked asks readonly p [] [] p
   then_one : (p mid q : P) (cs : List Command) (answers : List Answer) (c : Command) (a : Answer) →
       Asked asks readonly p cs answers mid → Answered asks mid (call_of readonly c) a q → Asked asks readonly p (cs ++ c ∷ []) (answers ++ a ∷ []) q
 
--- the replies to commands with their answers
+-- the replies to commands with these answers
 abbrev pub replies : List Command → List Answer → List ℕ
 replies [] answers = []
 replies (c ∷ cs) [] = []
 replies (c ∷ cs) (a ∷ answers) = text_of c a ++ replies cs answers
 
--- how many reads a session may have, where its caller does not say
+-- the maximum number of reads of a session, if its caller sets no other
 abbrev pub most_reads : ℕ
 most_reads = 4294967295
 
 abbrev pub EndsWith : List Command → Command → Type 0
 EndsWith cs c = (front : List Command) × (cs ≡ front ++ c ∷ [])
 
--- the last of these is a line or a payload that is too long
+-- the last of these commands is a line or a payload that is too long
 abbrev pub EndsTooLong : List Command → Type 0
 EndsTooLong cs = EndsWith cs command.LineTooLong ⊎ EndsWith cs command.DataTooLong
 
--- no command of these ends a session
+-- none of these commands ends a session
 abbrev pub GoesOn : List Command → Type 0
 GoesOn cs = All (λ c. is_last c ≡ false) cs
 
--- What a session did: the bytes that it read, by so many reads that did not fail; whether a read failed; the commands that it took up, and the others
--- that were read; the answers to those taken up; the bytes that it wrote; and whether a write failed.
+-- What a session did:
+-- `input`, `reads`, `read_failed`: the bytes that it read, the number of reads that did not fail,
+-- and whether a read failed.
+-- `taken`, `more`, `answers`: the commands that it took up, the further commands that it had read,
+-- and the answers to those taken up.
+-- `output`, `write_failed`: the bytes that it wrote, and whether a write failed.
 pub record Course : Type 0 where
   pub input : List ℕ
   pub reads : ℕ
@@ -78,29 +84,33 @@ pub record Course : Type 0 where
   pub output : List ℕ
   pub write_failed : Bool
 
--- all commands that were read are answered, and their replies written
+-- every command that was read is answered, and all replies are written
 abbrev pub IsWhole : Course → Type 0
 IsWhole course = (course.more ≡ []) × (course.output ≡ greeting ++ replies course.taken course.answers)
 
--- What was written is a front of the greeting and the replies to the commands taken up, and it has the greeting and the replies to all of them but the
--- last: no command is taken up before the reply to the one before it was written.
+-- The output is a prefix of the greeting and the replies to the commands taken up. It has the
+-- greeting and the replies to all of these commands except the last. So no command is taken up
+-- before the reply to the one before it is written.
 pub record IsFront (course : Course) : Type 0 where
   pub front : (rest : List ℕ) × (greeting ++ replies course.taken course.answers ≡ course.output ++ rest)
   pub all_but_last : (earlier : List Command) (last : Command) → course.taken ≡ earlier ++ last ∷ []
       → (rest : List ℕ) × (course.output ≡ greeting ++ replies earlier course.answers ++ rest)
 
--- A session of such a course stands before a command: it was read and not taken up. The replies to those before it are written.
+-- The session stands before a command that was read and not taken up. The replies to all commands
+-- before it are written.
 abbrev pub StandsBeforeOne : Course → Type 0
 StandsBeforeOne course =
     ((c : Command) × (rest : List Command) × (course.more ≡ c ∷ rest)) × (course.output ≡ greeting ++ replies course.taken course.answers)
 
--- Why a session reads no more of its input: a read failed, or it had as many as it may have, each of which gave a byte.
+-- The session reads no more of its input. Either a read failed before the maximum number of reads
+-- was made, or exactly that number was made, with at least as many bytes in all.
 abbrev pub ReadsNoMore : ℕ → Course → Type 0
 ReadsNoMore most course =
     ((course.read_failed ≡ true) × (course.reads < most))
     ⊎ ((course.read_failed ≡ false) × (course.reads ≡ most) × (most ≤ length course.input))
 
--- How a session of so many reads at most ends, which leaves its reader like this.
+-- What holds of a session of at most `most` reads by the way in which it ended, and with the source
+-- that it left.
 abbrev pub Ends : ℕ → Result Ended ServeFault → Course → Input → Type 0
 Ends most (Ok ended.Quit) course left =
     IsWhole course × EndsWith course.taken command.Quit × (course.read_failed ≡ false) × (course.write_failed ≡ false)
@@ -117,8 +127,8 @@ Ends most (Err fault.WriteFailed) course left =
 Ends most (Err fault.NoMemory) course left =
     IsFront course × (course.read_failed ≡ false) × (course.write_failed ≡ false)
 
--- A session with a port, a reader and a writer, each before and after it; it may be one that only reads. It makes so many reads at most, and its turns went
--- as this says of how it ended and of its course.
+-- A session with a port, a source and a sink, each before and after it. It makes at most `most`
+-- reads, and its turns went as `went` says for the result and the course.
 pub record ServesSo {P : Type 0} (asks : P → Call → Result Reply AskFault → P → Type 0) (readonly : Bool) (most : ℕ) (went : Result Ended ServeFault → Course → Type 0)
     (old new : P) (had left : Input) (held holds : Output) (result : Result Ended ServeFault) : Type 0 where
   pub course : Course
@@ -138,7 +148,8 @@ NoneRefused (Ok ended.EndOfInput) course = Unit {0}
 NoneRefused (Ok ended.GateClosed) course = ⊥
 NoneRefused (Err f) course = Unit {0}
 
--- A session with as many reads as one may have, none of whose turns is refused: it never ends at a closed gate.
+-- A session of at most 4,294,967,295 reads, none of whose turns is refused: it never ends at a
+-- closed gate.
 abbrev pub Serves : {P : Type 0} → (P → Call → Result Reply AskFault → P → Type 0) → Bool → P → P → Input → Input → Output → Output
     → Result Ended ServeFault → Type 0
 Serves asks readonly old new had left held holds result =
@@ -146,23 +157,25 @@ Serves asks readonly old new had left held holds result =
 
 -- ---- a session's turns
 
--- From one state to another the turns go through so many commands, one after another, from the first: each is asked for and given, and then told that its
--- command is answered.
+-- The turns went from one state to another through n commands, from the first to the nth. Each turn
+-- was asked for and given, and then it was reported that its command is answered.
 pub data Turned {T : Type 0} (turn : T → ℕ → Bool → T → Type 0) (done : T → ℕ → T → Type 0) : T → ℕ → T → Type 0 where
   not_yet : (t : T) → Turned turn done t 0 t
   once_more : (t mid given new : T) (n : ℕ) →
       Turned turn done t n mid → turn mid (n + 1) true given → done given (n + 1) new → Turned turn done t (n + 1) new
 
--- Where a session breaks off: the turns went through all commands taken up, and the replies to them are written, if there are any; or the turn of the last of
--- them was given, and was not told that it is answered.
+-- The turns of a session that stopped early. Either they went through all commands taken up, and
+-- the replies to these are written, if there are any. Or the turn of the last command was given,
+-- and it was not reported that this command is answered.
 abbrev pub BreaksOff : {T : Type 0} → (T → ℕ → Bool → T → Type 0) → (T → ℕ → T → Type 0) → T → T → Course → Type 0
 BreaksOff turn done was is course =
     (Turned turn done was (length course.taken) is
     × ((course.taken ≡ []) ⊎ (course.output ≡ greeting ++ replies course.taken course.answers)))
     ⊎ ((n : ℕ) × (mid : _) × (length course.taken ≡ n + 1) × Turned turn done was n mid × turn mid (n + 1) true is)
 
--- How the turns of a session went, from one state to another, by how it ended: through all commands taken up; at a closed gate the turn after these was asked
--- for and refused.
+-- The turns of a session, by the way in which it ended. They went through all commands taken up. At
+-- a closed gate the turn of the next command was then asked for and refused. For a failed write,
+-- and for out of memory, `BreaksOff` says how they went.
 abbrev pub WentThrough : {T : Type 0} → (T → ℕ → Bool → T → Type 0) → (T → ℕ → T → Type 0) → T → T → Result Ended ServeFault → Course → Type 0
 WentThrough turn done was is (Ok ended.Quit) course = Turned turn done was (length course.taken) is
 WentThrough turn done was is (Ok ended.TooLong) course = Turned turn done was (length course.taken) is
@@ -173,7 +186,8 @@ WentThrough turn done was is (Err fault.ReadFailed) course = Turned turn done wa
 WentThrough turn done was is (Err fault.WriteFailed) course = BreaksOff turn done was is course
 WentThrough turn done was is (Err fault.NoMemory) course = BreaksOff turn done was is course
 
--- A session with a port, turns, a reader and a writer, each before and after it; it makes so many reads at most.
+-- A session with a port, turns, a source and a sink, each before and after it. It makes at most
+-- `reads` reads.
 abbrev pub ServesTurns : {P : Type 0} → (P → Call → Result Reply AskFault → P → Type 0) → {T : Type 0} → (T → ℕ → Bool → T → Type 0) → (T → ℕ → T → Type 0)
     → Bool → ℕ → P → P → T → T → Input → Input → Output → Output → Result Ended ServeFault → Type 0
 ServesTurns asks turn done readonly reads old new was is had left held holds result =

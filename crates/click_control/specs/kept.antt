@@ -1,4 +1,4 @@
--- What the code keeps on its way; no public contract cites it.
+-- Definitions that only the proofs of this crate use.
 pub mod Going
 pub mod Lines
 pub mod ReplyRef

@@ -1,4 +1,4 @@
-//! Devices as a session's peer: std's readers and writers, watched for failures.
+//! Readers and writers of std as a session's source and sink, which record failures.
 
 ghost use Rattle.std.specs.Prelude.{◌≡◌, ◌+◌, ◌≤◌, ◌<◌, ◌||◌, length, is_err, IfOk, OnOk, OnErr, true, false};
 ghost use Rattle.std.specs.Io.KnownBytes.{ReadConsumes, WriteAppends};
@@ -8,36 +8,44 @@ use crate::peer::{Failed, Sink, Source};
 use std::io::{self, Read, Write};
 use std::marker::Model;
 
-/// What a source reads from. What one read does is a relation of its own, so that a contract can say that it was made just once.
+/// The device that a source reads from.
+///
+/// A read is described by a relation of its own (`reads`), so that a contract can say that exactly
+/// one read was made.
 pub trait InputDevice {
     ghost use Rattle.std.specs.Prelude.{ℕ, List, Option, Result};
     ghost use Rattle.std.specs.declared.io.Error.{Error};
 
-    /// The bytes still to come, where they are known.
+    /// The bytes still to come, if they are known.
     ghost remaining: { Self → Option (List ℕ) };
 
-    /// What one read does: the device before it, its answer, what the piece holds after it, and the device after it.
+    /// The effect of one read: the device before it, its result, the content of the piece after it,
+    /// and the device after it.
     ghost reads: { Self → Result ℕ Error → List ℕ → Self → Type 0 };
 
-    /// One read.
+    /// Makes one read, and returns the number of bytes that it put into `piece`.
     fn read_once(&mut self, piece: &mut [u8]) -> io::Result<usize>
         ensures bound { IfOk result (λ n. n ≤ length piece.new) }
         ensures bytes { ReadConsumes (remaining self.old) (remaining self.new) result piece.new }
         ensures once { reads self.old result piece.new self.new };
 }
 
-/// What a sink writes to. What one write does is a relation of its own, so that a contract can say that it was made just once.
+/// The device that a sink writes to.
+///
+/// A write is described by a relation of its own (`writes`), so that a contract can say that
+/// exactly one write was made.
 pub trait OutputDevice {
     ghost use Rattle.std.specs.Prelude.{ℕ, List, Option, Result};
     ghost use Rattle.std.specs.declared.io.Error.{Error};
 
-    /// The bytes that were taken, where they are known.
+    /// The bytes that were taken, if they are known.
     ghost contents: { Self → Option (List ℕ) };
 
-    /// What one write does: the device before it, its answer, the bytes that it was given, and the device after it.
+    /// The effect of one write: the device before it, its result, the bytes that it was given, and
+    /// the device after it.
     ghost writes: { Self → Result ℕ Error → List ℕ → Self → Type 0 };
 
-    /// One write.
+    /// Makes one write, and returns the number of bytes that were taken.
     fn write_once(&mut self, bytes: &[u8]) -> io::Result<usize>
         ensures bound { IfOk result (λ n. n ≤ length bytes.now) }
         ensures bytes { WriteAppends (contents self.old) (contents self.new) result bytes.now }
@@ -64,12 +72,14 @@ impl<W: Write> OutputDevice for W {
     }
 }
 
-/// A reader as a source. The read past 2^64 - 1 of them fails, so that their count never wraps.
+/// A source that reads from a device.
+///
+/// After 2^64 - 1 reads every read fails, so that the count of reads never wraps.
 #[derive(Drop)]
 pub struct Reading<D> {
     device: D,
     failed: bool,
-    /// How many reads have not failed.
+    /// The number of reads that did not fail.
     reads: u64,
 }
 
@@ -81,7 +91,7 @@ impl<D> Model for Reading<D> {
     ghost view = { λ r. record { device = r.device; failed = r.failed; reads = r.reads } };
 }
 
-/// A writer as a sink.
+/// A sink that writes to a device.
 #[derive(Drop)]
 pub struct Writing<D> {
     device: D,
@@ -97,7 +107,7 @@ impl<D> Model for Writing<D> {
 }
 
 impl<D> Reading<D> {
-    /// A source that has neither read nor failed.
+    /// Returns a source that has neither read nor failed.
     pub fn new(device: D) -> Self
         ensures { result ≡ record { device = device; failed = false; reads = 0 } }
     {
@@ -108,14 +118,14 @@ impl<D> Reading<D> {
         }
     }
 
-    /// A look at the device.
+    /// Borrows the device.
     pub fn device(&self) -> &D
         ensures { result.now ≡ self.now.device }
     {
         &self.device
     }
 
-    /// The device.
+    /// Returns the device.
     pub fn into_inner(self) -> D
         ensures { result ≡ self.device }
     {
@@ -135,7 +145,8 @@ impl<D: InputDevice> Source for Reading<D> {
         ensures bad_count { OnErr result (self.new.reads ≡ self.old.reads) }
         ensures stays { self.old.failed ≡ true → is_err result ≡ true }
         ensures failed { self.new.failed ≡ (self.old.failed || is_err result) }
-        // It fails only where the device did, in the one read that is made of it.
+        // Makes exactly one read of the device, and fails only if that read fails. After a failure,
+        // or after 2^64 - 1 reads, it fails without a read.
         ensures once { ReadsOnce D.reads self.old self.new result piece.new }
     {
         if self.failed || self.reads == u64::MAX {
@@ -156,7 +167,7 @@ impl<D: InputDevice> Source for Reading<D> {
 }
 
 impl<D> Writing<D> {
-    /// A sink that has not failed.
+    /// Returns a sink that has not failed.
     pub fn new(device: D) -> Self
         ensures { result ≡ record { device = device; failed = false } }
     {
@@ -166,7 +177,7 @@ impl<D> Writing<D> {
         }
     }
 
-    /// The device.
+    /// Returns the device.
     pub fn into_inner(self) -> D
         ensures { result ≡ self.device }
     {
@@ -185,7 +196,8 @@ impl<D: OutputDevice> Sink for Writing<D> {
         ensures bytes { WriteAppends (D.contents self.old.device) (D.contents self.new.device) result bytes.now }
         ensures stays { self.old.failed ≡ true → is_err result ≡ true }
         ensures failed { self.new.failed ≡ (self.old.failed || is_err result) }
-        // It fails only where the device did, or took none of some bytes, in the one write that is made of it.
+        // Makes exactly one write of the device, and fails only if that write fails or takes no
+        // byte. After a failure it fails without a write.
         ensures once { WritesOnce D.writes self.old self.new result bytes.now }
     {
         if self.failed {

@@ -1,6 +1,6 @@
-//! The two ways to use a handler.
+//! The two uses of a handler.
 
-/// Which way a handler is used.
+/// A use of a handler: it is read or written.
 #[derive(Clone, Copy, Debug, PartialEq, Eq)]
 pub enum Direction {
     Read,

@@ -1,4 +1,5 @@
-//! Control sessions (Click::ControlSocket/1.3): bytes to commands, commands to calls, answers to bytes.
+//! Control sessions (Click::ControlSocket/1.3): bytes become commands, commands become calls, and
+//! replies become bytes.
 #![tactic(auto)]
 
 mod command;

@@ -1,4 +1,4 @@
-//! The first line of some bytes, with the payload that it announces.
+//! Finding the first line of some bytes, with the payload that it announces.
 
 ghost use Rattle.std.specs.Prelude.{◌≡◌, ◌<◌, ◌≤◌, ℕ, List, length, take, true, slice_index, IfOk, MatchOption, Some};
 ghost use Rattle.click_control.specs.Commands.{is_end, parse_line, announces, HasNoEnd};
@@ -15,18 +15,23 @@ use click_base::sequence::Sequence;
 use memchr::memchr2;
 use std::alloc::{AllocError, Global};
 
-/// How many bytes a line may have before its end.
+/// The maximum number of bytes of a line before its end.
 const LONGEST_LINE: usize = 65_536;
 
-/// What bytes from the beginning of a line on hold.
+/// The content of bytes that start at the beginning of a line.
 #[derive(Drop)]
 pub enum FirstLine {
-    /// No command is whole, and none is with fewer bytes than are wanted. The first that were searched hold no line end.
+    /// There is no whole command yet.
+    ///
+    /// The first `searched` bytes hold no line end. No command is whole before `wanted` bytes have
+    /// come.
     Partial {
         searched: usize,
         wanted: usize,
     },
-    /// The first bytes are a line with what belongs to it: its command, how many bytes they are, and where the next ones begin.
+    /// The first `length` bytes are a line with the payload that it announces.
+    ///
+    /// `command` is `None` if the line is blank. The bytes after it begin at `start`.
     Taken {
         command: Option<Command>,
         length: usize,
@@ -34,7 +39,9 @@ pub enum FirstLine {
     },
 }
 
-/// Finds the first line, and its payload. The first bytes that were searched before hold no line end.
+/// Finds the first line and the payload that it announces.
+///
+/// The caller knows that the first `searched` bytes hold no line end.
 pub fn first_line(alloc: Global, bytes: &[u8], searched: usize) -> Result<FirstLine, AllocError>
     requires within { searched ≤ length bytes.now }
     requires no_end { HasNoEnd (take searched bytes.now) }
@@ -51,7 +58,7 @@ pub fn first_line(alloc: Global, bytes: &[u8], searched: usize) -> Result<FirstL
     }
 }
 
-/// The same, where the first line is too long.
+/// Returns the outcome of `first_line` if the first line is too long.
 fn too_long(bytes: &[u8]) -> FirstLine
     ensures { result ≡ found.Taken (Some command.LineTooLong) (length bytes.now) start.Over }
 {
@@ -62,7 +69,7 @@ fn too_long(bytes: &[u8]) -> FirstLine
     }
 }
 
-/// The same, where the first line has so many bytes before its end.
+/// Returns the outcome of `first_line` if the first line has `len` bytes before its end.
 fn ended_line(alloc: Global, bytes: &[u8], len: usize) -> Result<FirstLine, AllocError>
     requires { IsEnded bytes.now len }
     ensures { IfOk result (λ found. IsFirstLine bytes.now found) }
@@ -90,7 +97,8 @@ fn ended_line(alloc: Global, bytes: &[u8], len: usize) -> Result<FirstLine, Allo
     }
 }
 
-/// The same, where the first line announces a payload of so many bytes.
+/// Returns the outcome of `first_line` if the first line has `len` bytes and announces a payload of
+/// `count` bytes.
 fn payload(
     alloc: Global,
     bytes: &[u8],
@@ -121,7 +129,7 @@ fn payload(
     })
 }
 
-/// How many of these bytes are the end of a line, the first of them at least: an LF after a CR belongs to the same end.
+/// Returns the length of the line end with which these bytes begin: 2 for CR LF, else 1.
 fn end_len(bytes: &[u8]) -> usize
     ensures { result ≡ end_length bytes.now }
 {
@@ -132,7 +140,7 @@ fn end_len(bytes: &[u8]) -> usize
     }
 }
 
-/// How many bytes stand before the first line end.
+/// Returns the number of bytes before the first line end. The first `searched` bytes hold none.
 fn line_len(bytes: &[u8], searched: usize) -> Option<usize>
     requires within { searched ≤ length bytes.now }
     requires no_end { HasNoEnd (take searched bytes.now) }

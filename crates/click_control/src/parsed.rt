@@ -1,4 +1,4 @@
-//! What a line says.
+//! Parsing a command line.
 
 ghost use Rattle.std.specs.Prelude.{◌≡◌, ◌≤◌, length, not, IfOk, Some};
 ghost use Rattle.std.specs.List.{prefix_len};
@@ -14,17 +14,17 @@ use click_base::{is_blank, trimmed, without_front};
 use click_classes::{ArgFault, decimal_number};
 use std::alloc::{AllocError, Global};
 
-/// How many bytes a payload may have.
+/// The maximum number of bytes of a payload.
 const LONGEST_PAYLOAD: u64 = 1_048_576;
 
-/// What a line says.
+/// The meaning of a line.
 #[derive(Drop)]
 pub enum ParsedLine {
-    /// Nothing.
+    /// The line has no word.
     Blank,
     /// A command that needs no more than the line.
     Whole(Command),
-    /// A payload of so many bytes, one at least, is to come for a handler.
+    /// The line announces a payload of `count` bytes, at least one, for a handler.
     Announces {
         direction: Direction,
         handler: Sequence<u8>,
@@ -32,7 +32,7 @@ pub enum ParsedLine {
     },
 }
 
-/// What a line says.
+/// Parses a line. The first word decides; its case does not matter.
 pub fn parse_line(alloc: Global, line: &[u8]) -> Result<ParsedLine, AllocError>
     ensures { IfOk result (λ parsed. says parsed ≡ parse_line line.now) }
 {
@@ -60,7 +60,7 @@ pub fn parse_line(alloc: Global, line: &[u8]) -> Result<ParsedLine, AllocError>
     }
 }
 
-/// What `READ` or `WRITE` says, with the rest of its line.
+/// Parses the rest of a line after `READ` or `WRITE`.
 fn parse_text(alloc: Global, direction: Direction, rest: &[u8]) -> Result<ParsedLine, AllocError>
     ensures { IfOk result (λ parsed. says parsed ≡ parse_text direction (first_word rest.now) (trimmed (after_word rest.now))) }
 {
@@ -73,7 +73,7 @@ fn parse_text(alloc: Global, direction: Direction, rest: &[u8]) -> Result<Parsed
     Ok(ParsedLine::Whole(text_command(direction, handler, text)))
 }
 
-/// What `CHECKREAD` or `CHECKWRITE` says, with the rest of its line.
+/// Parses the rest of a line after `CHECKREAD` or `CHECKWRITE`.
 fn parse_check(alloc: Global, direction: Direction, rest: &[u8]) -> Result<ParsedLine, AllocError>
     ensures { IfOk result (λ parsed. says parsed ≡ parse_check direction (first_word rest.now) (second_word rest.now)) }
 {
@@ -86,7 +86,7 @@ fn parse_check(alloc: Global, direction: Direction, rest: &[u8]) -> Result<Parse
     Ok(ParsedLine::Whole(check_command(direction, handler)))
 }
 
-/// What `READDATA` or `WRITEDATA` says, with the rest of its line.
+/// Parses the rest of a line after `READDATA` or `WRITEDATA`.
 fn parse_data(alloc: Global, direction: Direction, rest: &[u8]) -> Result<ParsedLine, AllocError>
     ensures { IfOk result (λ parsed. says parsed ≡ parse_data direction (first_word rest.now) (second_word rest.now) (third_word rest.now)) }
 {
@@ -102,7 +102,7 @@ fn parse_data(alloc: Global, direction: Direction, rest: &[u8]) -> Result<Parsed
     }
 }
 
-/// What a line is whose payload has no length.
+/// Returns the command of a line whose payload length is too great or is not a number.
 fn bad_count(fault: ArgFault) -> Command
     ensures { result ≡ bad_count fault }
 {
@@ -117,7 +117,7 @@ fn bad_count(fault: ArgFault) -> Command
     }
 }
 
-/// A payload of so many bytes; of none, the command is whole.
+/// Returns the meaning of a line with a payload of `count` bytes: a whole command if `count` is 0.
 fn payload_line(
     alloc: Global,
     direction: Direction,
@@ -139,7 +139,7 @@ fn payload_line(
     })
 }
 
-/// The command that hands a handler a text.
+/// Returns the command that reads or writes a handler with a text.
 pub fn text_command(direction: Direction, handler: Sequence<u8>, text: Sequence<u8>) -> Command
     ensures { result ≡ text_command direction handler text }
 {
@@ -149,7 +149,7 @@ pub fn text_command(direction: Direction, handler: Sequence<u8>, text: Sequence<
     }
 }
 
-/// The command that asks whether a handler can be used.
+/// Returns the command that asks whether a handler can be read or written.
 fn check_command(direction: Direction, handler: Sequence<u8>) -> Command
     ensures { result ≡ check_command direction handler }
 {
@@ -159,7 +159,7 @@ fn check_command(direction: Direction, handler: Sequence<u8>) -> Command
     }
 }
 
-/// The first word, and what follows it.
+/// Splits a line into its first word, without the blanks before it, and the rest.
 fn cut(line: &[u8]) -> (&[u8], &[u8])
     ensures word { result.0.now ≡ first_word line.now }
     ensures rest { result.1.now ≡ after_word line.now }
@@ -168,14 +168,14 @@ fn cut(line: &[u8]) -> (&[u8], &[u8])
     words.split_at(word_len(words))
 }
 
-/// Whether a word is that one; case does not matter.
+/// Returns whether a word is the known one. Case does not matter.
 fn is_word(word: &[u8], known: &[u8]) -> bool
     ensures { result ≡ str_eq_ignore_ascii_case word.now known.now }
 {
     word.eq_ignore_ascii_case(known)
 }
 
-/// How many bytes stand before the first blank.
+/// Returns the number of bytes before the first blank.
 fn word_len(bytes: &[u8]) -> usize
     ensures len { result ≡ prefix_len (λ b. not (is_blank b)) bytes.now }
     ensures within { result ≤ length bytes.now }

@@ -1,20 +1,20 @@
-//! Where a session's calls go.
+//! The port through which a session makes its calls.
 
 use click_router::{Call, Reply, StoredReply};
 use std::alloc::Global;
 use thiserror::Error;
 
-/// Why a call was not answered.
+/// The reason why a call was not answered.
 #[derive(Clone, Copy, Debug, PartialEq, Eq, Error)]
 pub enum AskFault {
     #[error("out of memory")]
     NoMemory,
-    /// The history has no room for another entry.
+    /// The history has as many entries as it has room for.
     #[error("history full")]
     HistoryFull,
 }
 
-/// Where a session's calls go.
+/// What answers the calls of a session, such as a router.
 pub trait Port {
     ghost use Rattle.std.specs.Prelude.{Result, ◌≡◌, false};
     ghost use Rattle.click_router.specs.Polls.{is_poll};
@@ -22,15 +22,17 @@ pub trait Port {
     ghost use Rattle.click_router.specs.declared.call.Reply.{Reply};
     ghost use Rattle.click_control.specs.declared.port.AskFault.{AskFault};
 
-    /// What an ask does: the port before it, the call, the answer, and the port after it.
+    /// The effect of a call: the port before it, the call, its result, and the port after it.
     ghost asks: { Self → Call → Result Reply AskFault → Self → Type 0 };
 
-    /// Answers one call, which is no poll, with the reply as a history keeps it, which is small.
+    /// Makes one call, which is not a Poll, and returns the reply as a history stores it.
+    ///
+    /// perf: a `StoredReply` is small; a `Reply` has room for a packet.
     fn record(&mut self, alloc: Global, call: Call) -> Result<StoredReply, AskFault>
         requires { is_poll call ≡ false }
         ensures { asks self.old call result self.new };
 
-    /// Answers one call, which is no poll.
+    /// Makes one call, which is not a Poll, and returns its reply. A session uses `record` only.
     fn ask(&mut self, alloc: Global, call: Call) -> Result<Reply, AskFault>
         requires { is_poll call ≡ false }
         ensures { asks self.old call result self.new }

@@ -1,4 +1,4 @@
-//! The text that answers a command.
+//! Writing the reply to a command as text.
 
 ghost use Rattle.std.specs.Prelude.{◌≡◌, ◌++◌, ℕ, List, IfOk, OnOk, codes};
 ghost use Rattle.std.specs.List.{before_last};
@@ -16,24 +16,26 @@ use click_router::StoredReply;
 use itoa::Buffer;
 use std::alloc::{AllocError, Global};
 
-/// Room for most replies.
+/// The initial capacity for a reply's lines, in bytes. Most replies fit.
 const SHORT_REPLY: usize = 128;
 
-/// How many bytes the lines of a read that has a value may have, beside the handler's name and the value.
+/// The maximum number of bytes of a successful read's lines, without the handler's name and the
+/// value.
 const VALUE_LINES: usize = 51;
 
-/// What a reply needs of its command, but for the handler's name.
+/// What a reply needs to know of its command, except the handler's name.
 #[derive(Drop)]
 pub(crate) enum Topic {
     /// A read.
     Read,
-    /// A write, or whether a handler can be used that way.
+    /// A write, or a check of whether a handler can be read or written.
     Done(Direction),
     /// A command that makes no call.
     Uncalled(Command),
 }
 
-/// The lines that a session writes for a command with its answer. For an answer that the command cannot have there are none.
+/// Returns the lines that a session writes for a command and its answer. They are empty if the
+/// command cannot have this answer.
 pub fn reply_text(alloc: Global, command: &Command, answer: &Answer) -> Result<Vec<u8>, AllocError>
     ensures { IfOk result (λ text. text.items ≡ text_of command.now answer.now) }
 {
@@ -46,7 +48,7 @@ pub fn reply_text(alloc: Global, command: &Command, answer: &Answer) -> Result<V
     Ok(text)
 }
 
-/// Adds the lines for a command whose call has this reply.
+/// Appends the lines for a command whose call got this reply.
 #[inline(always)]
 pub(crate) fn push_replied(
     text: &mut Vec<u8>,
@@ -65,7 +67,7 @@ pub(crate) fn push_replied(
     }
 }
 
-/// Adds the lines for a command whose call failed.
+/// Appends the lines for a command whose call failed.
 pub(crate) fn push_failed_topic(
     text: &mut Vec<u8>,
     topic: &Topic,
@@ -79,7 +81,7 @@ pub(crate) fn push_failed_topic(
     }
 }
 
-/// Adds the lines for a command that makes no call.
+/// Appends the lines for a command that made no call.
 pub(crate) fn push_uncalled_topic(
     text: &mut Vec<u8>,
     topic: &Topic,
@@ -94,7 +96,7 @@ pub(crate) fn push_uncalled_topic(
     }
 }
 
-/// Adds the lines for a command of whose reply this is shown.
+/// Appends the lines for a command whose reply shows `reply_ref`.
 fn push_shown(
     text: &mut Vec<u8>,
     alloc: Global,
@@ -119,7 +121,7 @@ fn push_shown(
     }
 }
 
-/// Adds the lines for a command whose call has no reply.
+/// Appends the lines for a command whose call failed.
 fn push_unreplied(text: &mut Vec<u8>, command: &Command, fault: AskFault) -> Result<(), AllocError>
     ensures { OnOk result (text.new.items ≡ text.old.items ++ text_of command.now (Answer.Failed fault)) }
 {
@@ -136,7 +138,7 @@ fn push_unreplied(text: &mut Vec<u8>, command: &Command, fault: AskFault) -> Res
     }
 }
 
-/// Adds the lines for a command that makes no call.
+/// Appends the lines for a command that made no call.
 fn push_uncalled(text: &mut Vec<u8>, command: &Command) -> Result<(), AllocError>
     ensures { OnOk result (text.new.items ≡ text.old.items ++ text_of command.now Answer.NoCall) }
 {
@@ -155,7 +157,7 @@ fn push_uncalled(text: &mut Vec<u8>, command: &Command) -> Result<(), AllocError
     }
 }
 
-/// Adds the reply to a read of a handler.
+/// Appends the reply to a read of a handler.
 fn push_read(
     text: &mut Vec<u8>,
     alloc: Global,
@@ -171,7 +173,7 @@ fn push_read(
     }
 }
 
-/// Adds the reply to a write, and to the question whether a handler can be used that way.
+/// Appends the reply to a write, or to a check of whether a handler can be read or written.
 fn push_done(
     text: &mut Vec<u8>,
     alloc: Global,
@@ -188,7 +190,7 @@ fn push_done(
     }
 }
 
-/// Adds the line of a read or a write that is good.
+/// Appends the first line of a successful read, or the line of a successful write or check.
 fn push_good(text: &mut Vec<u8>, direction: Direction, handler: &[u8]) -> Result<(), AllocError>
     ensures { OnOk result (text.new.items ≡ text.old.items ++ good_text direction handler.now) }
 {
@@ -198,7 +200,7 @@ fn push_good(text: &mut Vec<u8>, direction: Direction, handler: &[u8]) -> Result
     }
 }
 
-/// Adds the lines of a read that has a value.
+/// Appends the lines of a read that returned a value, and the value.
 fn push_value(text: &mut Vec<u8>, handler: &[u8], bytes: &[u8]) -> Result<(), AllocError>
     ensures { OnOk result (text.new.items ≡ text.old.items ++ (quoting (codes "200 Read handler ") handler.now (codes " OK") ++ data_text bytes.now)) }
 {
@@ -207,7 +209,7 @@ fn push_value(text: &mut Vec<u8>, handler: &[u8], bytes: &[u8]) -> Result<(), Al
     push_counted(text, handler, digits, bytes)
 }
 
-/// Adds the lines of a read whose value has so many bytes.
+/// Appends the lines of a read and its value, whose length is given in decimal digits.
 fn push_counted(
     text: &mut Vec<u8>,
     handler: &[u8],
@@ -222,7 +224,7 @@ fn push_counted(
     push_around(text, digits, b"\r\n", bytes)
 }
 
-/// Adds why a read or a write was refused.
+/// Appends the reason why a read or a write was refused.
 fn push_refused(
     text: &mut Vec<u8>,
     alloc: Global,
@@ -246,7 +248,7 @@ fn push_refused(
     }
 }
 
-/// Adds that a handler is for the other way alone.
+/// Appends that a handler can be used in the opposite direction only.
 fn push_wrong_way(
     text: &mut Vec<u8>,
     direction: Direction,
@@ -260,7 +262,7 @@ fn push_wrong_way(
     }
 }
 
-/// Adds why there was no reply.
+/// Appends the reason why a call failed.
 fn push_failed(text: &mut Vec<u8>, fault: AskFault) -> Result<(), AllocError>
     ensures { OnOk result (text.new.items ≡ text.old.items ++ failed_text fault) }
 {
@@ -270,7 +272,7 @@ fn push_failed(text: &mut Vec<u8>, fault: AskFault) -> Result<(), AllocError>
     }
 }
 
-/// Adds what is said where a session may not make the call: it may always read.
+/// Appends the denial of a command that a read-only session may not make. A read is never denied.
 fn push_denied(text: &mut Vec<u8>, direction: Direction, handler: &[u8]) -> Result<(), AllocError>
     ensures { OnOk result (text.new.items ≡ text.old.items ++ denied_text direction handler.now) }
 {
@@ -280,7 +282,7 @@ fn push_denied(text: &mut Vec<u8>, direction: Direction, handler: &[u8]) -> Resu
     }
 }
 
-/// Adds the lines that say what a handler, or a configuration, finds wrong.
+/// Appends the two lines of a fault that a handler or a configuration has.
 fn push_error(
     text: &mut Vec<u8>,
     direction: Direction,
@@ -298,7 +300,7 @@ fn push_error(
     text.extend_from_slice(b"\r\n")
 }
 
-/// Adds a name with what stands before and behind it.
+/// Appends a name, with text in front of it and after it.
 fn push_around(text: &mut Vec<u8>, front: &[u8], name: &[u8], back: &[u8]) -> Result<(), AllocError>
     ensures { OnOk result (text.new.items ≡ text.old.items ++ (front.now ++ (name.now ++ back.now))) }
 {
@@ -307,7 +309,7 @@ fn push_around(text: &mut Vec<u8>, front: &[u8], name: &[u8], back: &[u8]) -> Re
     text.extend_from_slice(back)
 }
 
-/// Adds a line with a name in quotes.
+/// Appends a line with a name in quotes.
 fn push_quoting(
     text: &mut Vec<u8>,
     front: &[u8],
@@ -324,7 +326,7 @@ fn push_quoting(
     text.extend_from_slice(b"\r\n")
 }
 
-/// The element in a handler's name: what stands before its last dot.
+/// Returns the element of a handler's name: the part before its last dot.
 fn element_of(handler: &[u8]) -> &[u8]
     ensures { result.now ≡ before_last is_dot handler.now }
 {

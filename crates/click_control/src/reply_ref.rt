@@ -1,4 +1,4 @@
-//! What a session shows of a reply, whatever form that has.
+//! The part of a reply that a session shows, borrowed from either form of a reply.
 
 ghost use Rattle.std.specs.Prelude.{◌≡◌};
 ghost use Rattle.click_control.specs.ReplyText.{text_of};
@@ -9,7 +9,7 @@ ghost use Rattle.click_control.specs.declared.command.Command.{Command};
 use click_handlers::HandlerFault;
 use click_router::{CompactReply, ConfigFault, Refusal, Reply, StoredReply};
 
-/// Why a call was refused, as a reply has it.
+/// The reason why a call was refused, borrowed from a reply.
 #[derive(Clone, Copy)]
 pub enum RefusalRef<'a> {
     NoElement,
@@ -19,17 +19,19 @@ pub enum RefusalRef<'a> {
     Config(&'a ConfigFault),
 }
 
-/// What a session shows of a reply. It is small, and nothing of the reply is copied for it.
+/// The part of a reply that a session shows.
+///
+/// perf: it is small, and copies nothing of the reply.
 #[derive(Clone, Copy)]
 pub enum ReplyRef<'a> {
     Value(&'a [u8]),
     Done,
     Refused(RefusalRef<'a>),
-    /// No command has such a reply.
+    /// A reply that no command of a session gets.
     Nothing,
 }
 
-/// Why a call was refused.
+/// Borrows the reason why a call was refused.
 fn borrow_refusal(why: &Refusal) -> RefusalRef<'_>
     ensures { refusal_of result ≡ why.now }
 {
@@ -42,7 +44,7 @@ fn borrow_refusal(why: &Refusal) -> RefusalRef<'_>
     }
 }
 
-/// What is shown of a reply.
+/// Borrows what a session shows of a reply.
 pub fn borrow_reply(reply: &Reply) -> ReplyRef<'_>
     ensures { (command : Command) → text_of command (Answer.Replied (shown_reply result)) ≡ text_of command (Answer.Replied reply.now) }
 {
@@ -55,7 +57,7 @@ pub fn borrow_reply(reply: &Reply) -> ReplyRef<'_>
     }
 }
 
-/// What is shown of a reply as a history keeps it.
+/// Borrows what a session shows of a reply that is in the form that a history stores.
 pub fn borrow_stored_reply(reply: &StoredReply) -> ReplyRef<'_>
     ensures { (command : Command) → text_of command (Answer.Replied (shown_reply result)) ≡ text_of command (Answer.Replied reply.now) }
 {

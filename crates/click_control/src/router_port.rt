@@ -1,4 +1,4 @@
-//! A router of one thread as a session's port.
+//! A router that a session has to itself, as the session's port.
 
 ghost use Rattle.std.specs.Prelude.{◌≡◌, true, is_some, IfOk, MatchResult};
 ghost use Rattle.click_router.specs.One.{is_transmit};
@@ -8,7 +8,7 @@ use click_packet::PacketRoom;
 use click_router::{Call, Handlers, Reply, Router, StepFault, StoredReply};
 use std::alloc::{AllocError, Global};
 
-/// Room for the packet that the call may send.
+/// Allocates the room for the packet that the call may send.
 fn room_for(alloc: Global, call: &Call) -> Result<Option<PacketRoom>, AllocError>
     ensures { IfOk result (λ room. is_transmit call.now ≡ true → is_some room ≡ true) }
 {
@@ -18,7 +18,7 @@ fn room_for(alloc: Global, call: &Call) -> Result<Option<PacketRoom>, AllocError
     }
 }
 
-/// Why a step's call was not answered.
+/// Converts the fault of a step.
 fn fault_of(fault: StepFault) -> AskFault
     ensures { result ≡ AskFault.NoMemory }
 {
@@ -42,7 +42,7 @@ impl<T: Handlers> Port for Router<T> {
         }
     }
 
-    // A step takes no memory for a packet that is sent.
+    // Unlike `record`, `step` allocates nothing for a packet that is sent.
     fn ask(&mut self, alloc: Global, call: Call) -> Result<Reply, AskFault> {
         match self.step(alloc, &call) {
             Ok(reply) => Ok(reply),

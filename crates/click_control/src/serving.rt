@@ -1,4 +1,4 @@
-//! A whole session.
+//! Serving a whole session.
 
 ghost use Rattle.std.specs.Prelude.{◌≡◌, ◌++◌, ◌+◌, ◌-◌, ◌≤◌, ◌<◌, ◌^◌, ℕ, List, [], false, true, length, IfNone, IfSome, IfOk, OnOk, OnErr};
 ghost use Rattle.click_router.specs.Polls.{is_poll};
@@ -21,17 +21,17 @@ use click_router::Call;
 use std::alloc::{AllocError, Global};
 use thiserror::Error;
 
-/// What a session keeps from command to command, so that a command takes no memory for it.
+/// The memory that a session reuses from command to command.
 #[derive(Drop)]
 struct ReplyBuffers {
     alloc: Global,
-    /// The name of the handler of the last command that has one.
+    /// The handler of the last command that has one.
     handler: Vec<u8>,
     /// The lines of the last reply.
     lines: Vec<u8>,
 }
 
-/// How a session ends.
+/// The way in which a session ended.
 #[derive(Clone, Copy, Debug, PartialEq, Eq)]
 pub enum Ended {
     /// By `QUIT`.
@@ -44,10 +44,10 @@ pub enum Ended {
     GateClosed,
 }
 
-/// Why a session breaks off.
+/// The fault with which a session stops early.
 #[derive(Clone, Copy, Debug, PartialEq, Eq, Error)]
 pub enum ServeFault {
-    /// A read failed, or the session had as many reads as one may have.
+    /// A read failed, or the session made its maximum number of reads.
     #[error("a read failed")]
     ReadFailed,
     #[error("a write failed")]
@@ -56,18 +56,20 @@ pub enum ServeFault {
     NoMemory,
 }
 
-/// How many reads a session may have, where its caller does not say.
+/// The maximum number of reads of a session, if its caller sets no other.
 pub const MOST_READS: u32 = 4_294_967_295;
 
-/// How many bytes one read may give.
+/// The maximum number of bytes of one read.
 const PIECE: usize = 4096;
 
-/// How much room for a reply's lines is kept for the next reply.
+/// The maximum capacity, in bytes, that is kept from one reply's lines to the next.
 const MOST_KEPT: usize = 65_536;
 
-/// Greets, and answers each command as soon as it is whole, before the next read. Bytes may come in any pieces.
+/// Serves a session: writes the greeting, then the reply to each command.
 ///
-/// A read-only session makes no call for `WRITE`, `WRITEDATA` and `CHECKWRITE`: it denies them. No session ends at a closed gate.
+/// Each command is answered as soon as its bytes are complete, before the next read. The bytes may
+/// come in pieces of any size. A read-only session makes no call for `WRITE`, `WRITEDATA` and
+/// `CHECKWRITE`, and denies them. The session never ends at a closed gate.
 pub fn serve<R: Source, W: Sink, P: Port>(
     alloc: Global,
     reader: &mut R,
@@ -80,8 +82,10 @@ pub fn serve<R: Source, W: Sink, P: Port>(
     serve_turns(alloc, reader, writer, port, readonly, &mut Open, MOST_READS)
 }
 
-/// The same with turns, and with so many reads at most: ahead of each command its turn is asked for, and once its reply is written the turn is told.
-/// Where a turn is refused the session ends there, and the command makes no call.
+/// Does what `serve` does, with turns, and with at most `reads` reads.
+///
+/// Before each command its turn is asked for, and once its reply is written this is reported to the
+/// turns. If a turn is refused, the session ends, and the command makes no call.
 pub fn serve_turns<R: Source, W: Sink, P: Port, T: Turns>(
     alloc: Global,
     reader: &mut R,
@@ -132,7 +136,7 @@ fn greet<W: Sink>(writer: &mut W) -> Result<(), ServeFault>
     }
 }
 
-/// Takes in the next bytes of the input; `false` at its end.
+/// Feeds the next bytes of the input to the session. Returns `false` at the end of the input.
 fn feed_piece<R: Source>(
     reader: &mut R,
     piece: &mut [u8],
@@ -153,7 +157,10 @@ fn feed_piece<R: Source>(
     }
 }
 
-/// Takes up each command that is whole, and answers it; says how the session ends, where one of them ends it. So many were taken up before, and `taken` counts on.
+/// Answers each command that is whole. Returns how the session ends if one of them ends it.
+///
+/// `taken` is the number of commands taken up before. It grows by one with each command after which
+/// the session goes on.
 #[inline(always)]
 fn answer_commands<W: Sink, P: Port, T: Turns>(
     buffers: &mut ReplyBuffers,
@@ -169,7 +176,7 @@ fn answer_commands<W: Sink, P: Port, T: Turns>(
         → SoFar P.asks T.turn T.done readonly most first port.old was turns.old had left held (W.output writer.old) session.old taken.old reads
         → Goes P.asks T.turn T.done readonly most first port.new was turns.new had left held (W.output writer.new) session.new taken.new reads result }
     ensures all_taken { IfOk result (λ ended. IfNone ended (to_come session.new [] ≡ [])) }
-    // Each command has a byte at least.
+    // Each command has at least one byte.
     ensures bound { taken.new + length session.new.bytes ≤ taken.old + length session.old.bytes }
 {
     loop {
@@ -187,7 +194,9 @@ fn answer_commands<W: Sink, P: Port, T: Turns>(
     }
 }
 
-/// Answers the command after so many, where its turn is given; says how the session ends, where the command ends it or its turn is refused.
+/// Answers one command if its turn is given. `taken` commands were taken up before it.
+///
+/// Returns how the session ends, if the command ends it or its turn is refused.
 #[inline(always)]
 fn take_up<W: Sink, P: Port, T: Turns>(
     buffers: &mut ReplyBuffers,
@@ -206,7 +215,8 @@ fn take_up<W: Sink, P: Port, T: Turns>(
 {
     let nth = taken + 1;
     let ending = ending_of(&command);
-    // All memory that the call takes is taken before the turn: where it runs out no turn was given.
+    // The memory for the call is allocated before its turn is asked for, so that no turn is given
+    // if the allocation fails.
     let Ok((call, topic)) = call_of(&mut buffers.handler, readonly, command) else {
         return Err(ServeFault::NoMemory);
     };
@@ -218,7 +228,10 @@ fn take_up<W: Sink, P: Port, T: Turns>(
     Ok(ending)
 }
 
-/// The call that a command makes, and what its reply needs: the command's handler and text go into the call, and the handler's name is kept for the reply.
+/// Returns the call of a command, if it makes one, and what its reply needs to know of it.
+///
+/// The command's handler and text move into the call. A copy of the handler's name is stored in
+/// `kept`.
 #[inline(always)]
 fn call_of(
     kept: &mut Vec<u8>,
@@ -267,7 +280,7 @@ fn call_of(
     }
 }
 
-/// Keeps these bytes in the place of those before.
+/// Replaces the stored bytes by these.
 fn keep(kept: &mut Vec<u8>, bytes: &[u8]) -> Result<(), AllocError>
     ensures { OnOk result (kept.new.items ≡ bytes.now) }
 {
@@ -275,7 +288,7 @@ fn keep(kept: &mut Vec<u8>, bytes: &[u8]) -> Result<(), AllocError>
     kept.extend_from_slice(bytes)
 }
 
-/// Asks the port, where there is a call, and writes the reply to the command in full.
+/// Makes the call, if there is one, and writes the command's reply in full.
 #[inline(always)]
 fn ask_and_reply<W: Sink, P: Port>(
     buffers: &mut ReplyBuffers,
@@ -312,7 +325,8 @@ fn ask_and_reply<W: Sink, P: Port>(
     }
 }
 
-/// Writes the lines of a reply in full, where there was memory for them. Much room is given back.
+/// Writes the lines of a reply in full, if there was memory to make them. Frees the buffer if it
+/// has become large.
 fn reply<W: Sink>(
     writer: &mut W,
     lines: &mut Vec<u8>,
@@ -334,7 +348,7 @@ fn reply<W: Sink>(
     }
 }
 
-/// Writes all the bytes, by as many writes as it takes.
+/// Writes all the bytes, in as many writes as necessary.
 fn write_all<W: Sink>(writer: &mut W, bytes: &[u8]) -> Result<(), Failed>
     ensures ok { OnOk result (HasWritten (W.output writer.old) (W.output writer.new) bytes.now false) }
     ensures err { OnErr result (WroteFront (W.output writer.old) (W.output writer.new) bytes.now true) }
@@ -349,7 +363,7 @@ fn write_all<W: Sink>(writer: &mut W, bytes: &[u8]) -> Result<(), Failed>
     Ok(())
 }
 
-/// How a command ends a session.
+/// Returns how a command ends a session, or `None` if it does not.
 fn ending_of(command: &Command) -> Option<Ended>
     ensures { result ≡ ending_of command.now }
 {

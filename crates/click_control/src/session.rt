@@ -1,4 +1,4 @@
-//! The commands of a session's bytes, as they come.
+//! A session's stream of bytes, which becomes commands.
 
 ghost use Rattle.std.specs.Prelude.{◌≡◌, ◌≤◌, ◌+◌, length, drop, IfOk, OnOk, OnErr};
 ghost use Rattle.click_control.specs.Taking.{fresh, fed, GivesNext, GivesNone};
@@ -10,27 +10,29 @@ use crate::start::{Start, line_start};
 use std::alloc::{AllocError, Global};
 use std::marker::Model;
 
-/// What a session says of its next line.
+/// The outcome of taking up a session's next line.
 #[derive(Drop)]
 enum Line {
-    /// It has not come, or not with all that belongs to it.
+    /// The line, or the payload that it announces, is incomplete.
     Partial,
-    /// It is blank.
+    /// The line is blank.
     Blank,
-    /// It is this command.
+    /// The line, with its payload, is this command.
     Whole(Command),
 }
 
-/// A session's stream: its bytes go in as they come, in any pieces, and its commands come out one after another (Click manual, "ControlSocket"). It never keeps more bytes
-/// than twice those that are still to be taken up.
+/// The parser of a session's stream (Click manual, "ControlSocket").
+///
+/// Bytes are fed in pieces of any size, and commands are taken out one after another. By the type's
+/// invariant its buffer has at most twice as many bytes as are still to be taken up.
 #[derive(Drop)]
 pub struct Session {
     buffer: Vec<u8>,
-    /// Where in the buffer the bytes begin that are not taken up yet.
+    /// The offset of the first byte that is not taken up yet.
     at: usize,
-    /// How many of them are known to hold no line end.
+    /// The number of bytes from there on that are known to hold no line end.
     searched: usize,
-    /// How many of them the next command has at least, as far as that is known.
+    /// A lower bound for the number of bytes, from there on, that complete the next command.
     wanted: usize,
     start: Start,
 }
@@ -49,7 +51,7 @@ impl Model for Session {
 }
 
 impl Session {
-    /// At the beginning of a stream. It takes no memory.
+    /// Returns a session at the beginning of its stream. Allocates nothing.
     pub fn new(alloc: Global) -> Self
         ensures { result ≡ fresh }
     {
@@ -62,9 +64,10 @@ impl Session {
         }
     }
 
-    /// Takes in the next bytes of the stream; after `QUIT`, and after a line or a payload that is too long, it takes none.
+    /// Appends the next bytes of the stream. After `QUIT`, and after a line or a payload that is
+    /// too long, it ignores them.
     ///
-    /// Where memory runs out the session is as it was.
+    /// If it fails with out of memory, the session is unchanged.
     pub fn feed(&mut self, piece: &[u8]) -> Result<(), AllocError>
         ensures ok { OnOk result (self.new ≡ fed self.old piece.now) }
         ensures err { OnErr result (self.new ≡ self.old) }
@@ -75,9 +78,9 @@ impl Session {
         self.buffer.extend_from_slice(piece)
     }
 
-    /// The next command; none where none is whole of what was fed.
+    /// Takes out the next command. Returns `None` if the bytes fed so far hold no whole command.
     ///
-    /// Where memory runs out the command is still to come.
+    /// If it fails with out of memory, the command is still to come.
     pub fn next(&mut self, alloc: Global) -> Result<Option<Command>, AllocError>
         ensures ok { IfOk result (λ command. GivesNext self.old self.new command) }
         ensures err { OnErr result (GivesNone self.old self.new) }
@@ -92,7 +95,7 @@ impl Session {
         }
     }
 
-    /// Takes up the next line, where it is there with what belongs to it, or too long.
+    /// Takes up the next line, if it is complete with its payload or is too long.
     fn line(&mut self, alloc: Global) -> Result<Line, AllocError>
         ensures ok { IfOk result (λ line. TakesLine self.old self.new line) }
         ensures err { OnErr result (self.new ≡ self.old) }
@@ -131,8 +134,10 @@ impl Session {
     }
 }
 
-/// Gives up the bytes of a buffer that were taken up, where they are more than the rest, and says where the rest begins then: no byte is moved that another was not
-/// taken up for.
+/// Drops the bytes that were taken up if they are more than the rest. Returns the offset of the
+/// rest.
+///
+/// perf: moves fewer bytes than it drops.
 fn compact_buffer(buffer: &mut Vec<u8>, at: usize) -> usize
     requires { at ≤ length buffer.old.items }
     ensures rest { drop result buffer.new.items ≡ drop at buffer.old.items }
@@ -146,7 +151,7 @@ fn compact_buffer(buffer: &mut Vec<u8>, at: usize) -> usize
     0
 }
 
-/// Drops the first bytes of a buffer.
+/// Drops the first `count` bytes of a buffer.
 fn drop_front(buffer: &mut Vec<u8>, count: usize)
     requires { count ≤ length buffer.old.items }
     ensures { buffer.new.items ≡ drop count buffer.old.items }

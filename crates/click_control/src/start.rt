@@ -1,4 +1,4 @@
-//! Where a line begins.
+//! The position of a session's next bytes in its stream.
 
 ghost use Rattle.std.specs.Prelude.{◌≡◌, ◌++◌, ◌≤◌, ℕ, List, [], length, drop, MatchOption};
 ghost use Rattle.click_control.specs.Commands.{in_line, after_end, after_line, commands_from, whole};
@@ -6,18 +6,19 @@ ghost use Rattle.click_control.specs.kept.Lines.{reading_of};
 
 use crate::command::Command;
 
-/// Where the bytes that are left begin.
+/// The position at which the bytes that are not taken up begin.
 #[derive(Clone, Copy, Debug, PartialEq, Eq)]
 pub enum Start {
     /// At the beginning of a line.
     Line,
-    /// After a CR that ended a line: an LF belongs to that end.
+    /// After a CR that ended a line. An LF that follows belongs to the same end.
     AfterReturn,
-    /// After a command that nothing follows.
+    /// After the last command of the session.
     Over,
 }
 
-/// How many bytes stand before the next line; `None` where that has not begun, and never will after the last command.
+/// Returns the number of bytes before the next line. Returns `None` if the next byte is needed to
+/// know it, and after the last command.
 pub fn line_start(start: Start, bytes: &[u8]) -> Option<usize>
     ensures { MatchOption result (commands_from (reading_of start) bytes.now ≡ [])
         (λ n. (n ≤ length bytes.now) × ((more : List ℕ) → commands_from (reading_of start) (bytes.now ++ more) ≡ commands_from (in_line []) (drop n bytes.now ++ more))) }
@@ -37,7 +38,7 @@ pub fn line_start(start: Start, bytes: &[u8]) -> Option<usize>
     }
 }
 
-/// Where the bytes after an end of a line begin.
+/// Returns the position after a line end whose first byte is `last`.
 pub fn after_end(last: u8) -> Start
     ensures { reading_of result ≡ after_end last }
 {
@@ -48,7 +49,7 @@ pub fn after_end(last: u8) -> Start
     }
 }
 
-/// Where the bytes after a line begin that is a whole command.
+/// Returns the position after a line that is a whole command, and whose end begins with `last`.
 pub fn start_after(command: &Command, last: u8) -> Start
     ensures { reading_of result ≡ after_line (whole command.now) last }
 {

@@ -1,22 +1,27 @@
-//! A session's turns: whoever watches over it is asked before each of its commands, and told once it is answered.
+//! Turns, by which a caller of `serve_turns` controls a session command by command.
 
 ghost use Rattle.std.specs.Prelude.{◌≡◌, true};
 
-/// What a session goes through at each of its commands.
+/// What a session asks before each of its commands, and reports to after it.
 pub trait Turns {
     ghost use Rattle.std.specs.Prelude.{ℕ, Bool};
 
-    /// What asking for the nth turn does: the turns before it, the number, whether it is given, and the turns after it.
+    /// The effect of asking for the nth turn: the turns before it, n, whether it is given, and the
+    /// turns after it.
     ghost turn: { Self → ℕ → Bool → Self → Type 0 };
 
-    /// What telling that the nth command is answered does: the turns before it, the number, and the turns after it.
+    /// The effect of the report that the nth command is answered: the turns before it, n, and the
+    /// turns after it.
     ghost done: { Self → ℕ → Self → Type 0 };
 
-    /// Called ahead of the nth whole command, from 1, `QUIT` and refused ones too. Where it answers `false` the session ends.
+    /// Returns whether the session may take up its nth command, counted from 1; if not, the session
+    /// ends.
+    ///
+    /// Called before every whole command, including `QUIT` and those that make no call.
     fn before(&mut self, nth: u64) -> bool
         ensures { turn self.old nth result self.new };
 
-    /// Called once the reply to the nth command is written.
+    /// Receives the report that the reply to the nth command is written.
     fn after(&mut self, nth: u64)
         ensures { done self.old nth self.new };
 }

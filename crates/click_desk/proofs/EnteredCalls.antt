@@ -1,4 +1,4 @@
--- What a logged router keeps where a call is entered.
+-- Entering a call keeps the invariant of the logged router.
 use Rattle.std.proofs.Common.{◌≡◌, ◌≤◌, ◌++◌, ◌∷◌, [], ℕ, true, false, None, is_some, List, length, map, ◌∙◌, ap, subst, sym, refl, append-nil, arith}
 use Rattle.click_packet.specs.Packet.{Packet}
 use Rattle.click_rings.specs.Feeds.{ConsumerState, FeedName, name_of, has_feed, have_distinct_devices, drew}
@@ -19,7 +19,7 @@ use Rattle.click_desk.proofs.Histories.{legal_more}
 use Rattle.click_desk.proofs.InstalledTexts.{published_more, quiet}
 use Rattle.click_desk.proofs.HistoryPolls.{polled_same, polled_drew, drew_length, none_of}
 
--- what a logged router keeps of its parts
+-- The invariant of a logged router, in terms of its parts.
 abbrev pub Kept : DeskOptions → TrailState Entry → List ConsumerState → Showing (List ℕ) → RouterState → Type 0
 Kept options entries consumers published router = Legal options.opening entries.items router × IsPolled entries.items consumers
     × (have_distinct_devices (map name_of consumers) ≡ true)
@@ -42,7 +42,7 @@ kept_more log router next e entries consumers published kept answer more keeps p
   keeps ∙ kept.4,
 )
 
--- a call that is no poll, by a log that is the one inside
+-- Entering a call that is no Poll keeps the invariant.
 pub kept_call : (inside log : RouterLog) (router next : RouterState) (e : Entry) (entries : TrailState Entry) (published : Showing (List ℕ))
     → log ≡ inside → KeptIn inside router → is_poll e.call ≡ false
     → Answers router e.call next e.reply → entries.items ≡ log.entries.items ++ e ∷ [] → entries.keeps ≡ log.entries.keeps
@@ -56,7 +56,7 @@ kept_call inside log router next e entries published same within no_poll answer 
 installs_none : (log : RouterLog) (e : Entry) → swap_text e.call ≡ None → log.published.list ≡ log.published.list ++ installed e.call e.reply
 installs_none log e none = sym (ap (λ l. log.published.list ++ l) (quiet e.call e.reply none) ∙ append-nil log.published.list)
 
--- one that installs nothing either
+-- Entering a call that is neither a Poll nor a swap keeps the invariant.
 pub kept_quiet : (inside log : RouterLog) (router next : RouterState) (e : Entry) (entries : TrailState Entry)
     → log ≡ inside → KeptIn inside router → is_poll e.call ≡ false → swap_text e.call ≡ None
     → Answers router e.call next e.reply → entries.items ≡ log.entries.items ++ e ∷ [] → entries.keeps ≡ log.entries.keeps
@@ -67,7 +67,7 @@ kept_quiet inside log router next e entries same within no_poll no_swap answer m
 pub names_drawn : (device : List ℕ) (got : List Packet) (old now : List ConsumerState) → now ≡ drew device got old → map name_of now ≡ map name_of old
 names_drawn device got old now drawn = ap (λ l. map name_of l) drawn ∙ drew_feeds device got old
 
--- a poll of what was drawn
+-- Entering a Poll of the packets that were drawn keeps the invariant.
 pub kept_poll : (inside log : RouterLog) (router next : RouterState) (e : Entry) (entries : TrailState Entry) (consumers : List ConsumerState) (device : List ℕ) (got : List Packet)
     → log ≡ inside → KeptIn inside router → e.call ≡ poll device got → consumers ≡ drew device got log.consumers.items
     → Answers router e.call next e.reply → entries.items ≡ log.entries.items ++ e ∷ [] → entries.keeps ≡ log.entries.keeps
@@ -78,13 +78,13 @@ kept_poll inside log router next e entries consumers device got same within is d
     (subst (λ (l : List ConsumerState). IsPolled (log.entries.items ++ e ∷ []) l) (sym drawn) (polled_drew log.entries.items e device got log.consumers.items is kept.1))
     (names_drawn device got log.consumers.items consumers drawn) refl (installs_none log e (ap swap_text is))
 
--- what is drawn by a slice of the feeds is drawn from them
+-- What is drawn through a slice of the feeds is drawn from the feeds.
 pub drawn_by : (device : List ℕ) (got : List Packet) (old items slice new now : List ConsumerState) (len : ℕ) → items ≡ old → slice ≡ items → len ≡ length items
     → (length new ≡ len → now ≡ new) → new ≡ drew device got slice → now ≡ drew device got old
 drawn_by device got old items slice new now len same sliced many put went =
     put (ap length went ∙ (drew_length device got slice ∙ (ap length sliced ∙ sym many))) ∙ (went ∙ ap (λ l. drew device got l) (sliced ∙ same))
 
--- no more is taken than was seen to be there
+-- A poll draws no more packets than were seen in the feed.
 pub may_take : (feeds : List FeedName) (device : List ℕ) (limit seen : ℕ) (got : List Packet) (router next : RouterState) (reply told : Reply) → seen ≤ limit
     → ((packets : List Packet) (after : RouterState) (said : Reply) → Answers router (poll device packets) after said → said ≡ NoDevice → seen ≡ 0)
     → length got ≤ seen → (has_feed device feeds ≡ false → got ≡ []) → Answers router (poll device got) next reply → told ≡ reply → MayTake feeds device limit got told

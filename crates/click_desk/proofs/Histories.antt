@@ -11,7 +11,7 @@ use Rattle.click_router.specs.declared.call.Reply.{Reply}
 use Rattle.click_desk.specs.declared.entry.Entry.{Entry}
 use Rattle.click_desk.specs.History.{entry, Replays, Legal, entries, StartsWith}
 
--- one entry more is replayed from where the others end
+-- A replay can be extended by one entry, from the state where it ends.
 pub replays_more : (s : RouterState) (es : List Entry) (mid : RouterState) (e : Entry) (last : RouterState) → Replays s es mid → Answers mid e.call last e.reply → Replays s (es ++ e ∷ []) last
 replays_more s [] mid e last h is = (last, subst (λ t. Answers t e.call last e.reply) (sym h) is, refl)
 replays_more s (x ∷ es) mid e last h is = (h.0, h.1, replays_more h.0 es mid e last h.2 is)
@@ -36,7 +36,7 @@ entries_append (e ∷ a) b n =
       | false ↦ entries_append a b n
     ]
 
--- an entry of a seat is one more of its own, and none of the others'
+-- An entry of a seat extends the calls of this seat, and not those of other seats.
 pub entries_mine : (a : List Entry) (n : ℕ) (call : Call) (reply : Reply) → entries (a ++ entry n call reply ∷ []) n ≡ entries a n ++ (call, reply) ∷ []
 entries_mine a n call reply =
     let same : (n == n) ≡ true = grind (arith, nat_tests) in
@@ -52,7 +52,7 @@ entries_other a n call reply m apart =
 nil_cons : (x : Call × Reply) (xs : List (Call × Reply)) → x ∷ xs ≡ [] → ⊥
 nil_cons x xs e = cc
 
--- an entry bears a number that has entries
+-- If a seat has no entry in a history, it has none in the rest of it.
 none_later : (e : Entry) (es : List Entry) (n : ℕ) → entries (e ∷ es) n ≡ [] → entries es n ≡ []
 none_later e es n =
     elim (e.seat == n) as (λ (t : Bool). (if t then ((e.call, e.reply) ∷ entries es n) else entries es n) ≡ [] → entries es n ≡ []) [
@@ -68,13 +68,13 @@ bears (e ∷ es) zero d below none =
     nil_cons (e.call, e.reply) (entries es e.seat) (sym more ∙ none)
 bears (e ∷ es) (suc k) d below none = bears es k d (omega arith) (none_later e es (slice_index_or es k d).seat none)
 
--- where no number from n on has entries, each entry bears a number below n
+-- If no number from n on has entries, each entry has a number below n.
 pub all_below : (n : ℕ) (es : List Entry) → ((k : ℕ) → n ≤ k → entries es k ≡ []) → All (λ e. e.seat < n) es
 all_below n es none k d below =
     let at = (slice_index_or es k d).seat in
     ⊎_elim (λ (h : at < n). h) (λ (h : n ≤ at). absurd (bears es k d below (none at h))) (cases_lt at n)
 
--- where each entry bears the only number, they are as many as that seat's
+-- If each entry has the number 0, that seat has as many entries as the history.
 pub own_length : (n : ℕ) (es : List Entry) → All (λ e. e.seat < 1) es → n ≡ 0 → length (entries es n) ≡ length es
 own_length n [] all zeroth = refl
 own_length n (e ∷ es) all zeroth =

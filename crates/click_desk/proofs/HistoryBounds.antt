@@ -1,4 +1,4 @@
--- Laws of bounds.
+-- Laws of the room of a history.
 use Rattle.std.proofs.Common.{◌≡◌, ℕ, Option, Some, None, ap, sym, subst, arith}
 use Rattle.click_desk.specs.Bounds.{IsWithin, IsFull}
 
@@ -6,7 +6,7 @@ pub within_none : (room : Option ℕ) → IsWithin room 0
 within_none None = tt
 within_none (Some room) = omega arith
 
--- a history that has no room for one more has just as many entries as it may have
+-- A history with exactly as many entries as it has room for is full.
 pub is_full : (room : Option ℕ) (n : ℕ) → room ≡ Some n → IsFull room n
 is_full room n is = subst (λ (r : Option ℕ). IsFull r n) (sym is) (omega arith)
 

@@ -13,12 +13,12 @@ pub drew_length : (device : List ℕ) (got : List Packet) (is : List ConsumerSta
 drew_length device got [] = refl
 drew_length device got (i ∷ is) = ap suc (drew_length device got is)
 
--- no packet
+-- A list of length 0 is empty.
 pub none_of : (l : List Packet) → length l ≤ 0 → l ≡ []
 none_of [] e = refl
 none_of (p ∷ l) e = absurd (omega arith)
 
--- one entry more
+-- What a history with one more entry polled.
 pub polled_push : (h : List Entry) (e : Entry) (device : List ℕ) → polled (h ++ e ∷ []) device ≡ polled h device ++ taken_of e.call device
 polled_push [] e device = append-nil (taken_of e.call device)
 polled_push (x ∷ h) e device = ap (λ l. taken_of x.call device ++ l) (polled_push h e device) ∙ sym (append_assoc (taken_of x.call device) (polled h device) (taken_of e.call device))
@@ -27,7 +27,7 @@ pub not_taken : (c : Call) (device : List ℕ) → is_poll c ≡ false → taken
 not_taken (call.Poll from taken) device not_poll = absurd (true≢false not_poll)
 not_taken _ device not_poll = refl
 
--- an entry of no poll
+-- An entry that is no Poll keeps `IsPolled`.
 pub polled_same : (h : List Entry) (e : Entry) (is : List ConsumerState) → is_poll e.call ≡ false → IsPolled h is → IsPolled (h ++ e ∷ []) is
 polled_same h e is not_poll all k x below =
     let i = slice_index_or is k x in
@@ -42,7 +42,7 @@ drew_one h e device got i false here is was =
     let took : taken_of e.call i.device ≡ [] = ap (λ c. taken_of c i.device) is ∙ ap (λ (b : Bool). if b then got else []) here in
     was ∙ (sym (append-nil (polled h i.device)) ∙ (ap (λ l. polled h i.device ++ l) (sym took) ∙ sym (polled_push h e i.device)))
 
--- an entry of the poll for which was drawn
+-- The entry of a Poll keeps `IsPolled`, if its packets were drawn from the feed.
 pub polled_drew : (h : List Entry) (e : Entry) (device : List ℕ) (got : List Packet) (is : List ConsumerState) → e.call ≡ poll device got → IsPolled h is → IsPolled (h ++ e ∷ []) (drew device got is)
 polled_drew h e device got [] is all k x below = absurd (omega arith)
 polled_drew h e device got (i ∷ rest) is all zero x below = drew_one h e device got i (bytes_eq i.device device) refl is (all 0 x (omega arith))

@@ -1,4 +1,4 @@
--- What a call that is answered installs.
+-- What an answered call installs.
 use Rattle.std.proofs.Common.{◌≡◌, ℕ, List, ◌∷◌, [], ◌++◌, Bool, true, false, Some, None, if◌then◌else◌, refl, sym, ap, ◌∙◌, subst, append-nil, append_assoc}
 use Rattle.boxcar.specs.Table.{Shelves}
 use Rattle.click_router.specs.One.{Answers, is_hotconfig, swap_text, write, holds_memory}
@@ -20,19 +20,19 @@ unfolding WriteBy
 by_name true s t name text other r is h = let same : text ≡ other = cc in subst (λ x. Swaps s x t r) same h
 by_name false s t name text other r is h = absurd (let x = is in cc)
 
--- a swap to the text that a call asks to take over answers the call
+-- A swap to the text of a call answers that call.
 pub swap_answers : (s t : RouterState) (c : Call) (text : List ℕ) (r : Reply) → swap_text c ≡ Some text → Swaps s text t r → Answers s c t r
 unfolding WriteBy
 swap_answers s t (call.Write name other) text r is h = by_name (is_hotconfig name) s t name text other r is h
 swap_answers s t (call.Swap other) text r is h = let same : text ≡ other = cc in subst (λ x. Swaps s x t r) same h
 swap_answers s t _ text r is h = absurd (let x = is in cc)
 
--- a call that asks no text to take over installs nothing
+-- A call that is no swap installs nothing.
 pub quiet : (c : Call) (r : Reply) → swap_text c ≡ None → installed c r ≡ []
 quiet c reply.Done is = ap asked is
 quiet c _ is = refl
 
--- nor does one whose reply holds memory
+-- A call whose reply holds memory installs nothing.
 pub heavy : (c : Call) (r : Reply) → holds_memory r ≡ true → installed c r ≡ []
 heavy c reply.Done is = absurd (let x = is in cc)
 heavy c _ is = refl
@@ -48,7 +48,7 @@ swaps_append (e ∷ a) b = ap (λ l. installed e.call e.reply ++ l) (swaps_appen
 pub installs_more : (opening : List ℕ) (es : List Entry) (e : Entry) → installs opening (es ++ e ∷ []) ≡ installs opening es ++ installed e.call e.reply
 installs_more opening es e = ap (λ l. opening ∷ l) (swaps_append es (e ∷ []) ∙ ap (λ l. swaps es ++ l) (append-nil (installed e.call e.reply)))
 
--- one entry more, and what it installs
+-- The list of installed texts after one more entry.
 pub published_more : (board : Shelves) (opening : List ℕ) (es items : List Entry) (e : Entry) (p q : Showing (List ℕ)) → p ≡ record { board = board; list = installs opening es } → items ≡ es ++ e ∷ []
     → q.board ≡ p.board → q.list ≡ p.list ++ installed e.call e.reply → q ≡ record { board = board; list = installs opening items }
 published_more board opening es items e p q is more same list =
@@ -56,7 +56,7 @@ published_more board opening es items e p q is more same list =
     let at : q.board ≡ board = same ∙ ap (λ (s : Showing (List ℕ)). s.board) is in
     λ i. record { board = at i; list = all i }
 
--- one entry more, which installs nothing
+-- The list of installed texts is unchanged after one more entry that installs nothing.
 pub published_same : (board : Shelves) (opening : List ℕ) (es items : List Entry) (e : Entry) (p : Showing (List ℕ)) → p ≡ record { board = board; list = installs opening es } → items ≡ es ++ e ∷ []
     → installed e.call e.reply ≡ [] → p ≡ record { board = board; list = installs opening items }
 published_same board opening es items e p is more none =

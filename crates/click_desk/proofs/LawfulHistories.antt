@@ -1,4 +1,4 @@
--- What a history installed is lawful, and what was refused left no trace.
+-- Installed configurations are lawful, and refused swaps leave no trace.
 use Rattle.std.proofs.Common.{◌≡◌, ℕ, Option, Some, None, List, [], ◌∷◌, ◌++◌, sym, refl, ◌∙◌, subst}
 use Rattle.click_router.specs.State.{RouterState}
 use Rattle.click_router.specs.Opened.{IsOpened}
@@ -14,7 +14,7 @@ use Rattle.click_router.proofs.OfCalls.OneOutcome.{done, unchanged, one_answer}
 use Rattle.click_desk.specs.declared.entry.Entry.{Entry}
 use Rattle.click_desk.specs.History.{Replays, Legal, asked, installed, swaps, installs, IsLawfulText, EachLawful}
 
--- what opens is lawful
+-- The configuration of a text that opens is lawful.
 opened_lawful : (text : List ℕ) (s : RouterState) → IsOpened text s → IsLawfulText text
 opened_lawful text s o = record {
   config = o.config;
@@ -45,7 +45,7 @@ replayed s (e ∷ es) last h = both (installed e.call e.reply) (swaps es) (call_
 pub each_lawful : (text : List ℕ) (history : List Entry) (state : RouterState) → Legal text history state → EachLawful (installs text history)
 each_lawful text history state h = (opened_lawful text h.0 h.1, replayed h.0 history state h.2)
 
--- without a refused swap
+-- A history replays to the same state without a refused swap.
 without : (s : RouterState) (before : List Entry) (e : Entry) (after : List Entry) (swapped : List ℕ) (why : Refusal) (last : RouterState)
     → swap_text e.call ≡ Some swapped → e.reply ≡ reply.Refused why → Replays s (before ++ e ∷ after) last → Replays s (before ++ after) last
 without s [] e after swapped why last asks is h =
@@ -57,7 +57,7 @@ pub no_trace : (text swapped : List ℕ) (before after : List Entry) (e : Entry)
     → swap_text e.call ≡ Some swapped → e.reply ≡ reply.Refused why → Legal text (before ++ e ∷ after) state → Legal text (before ++ after) state
 no_trace text swapped before after e why state asks is h = (h.0, h.1, without h.0 before e after swapped why state asks is h.2)
 
--- one state
+-- A history replays to one state only.
 ends_once : (r s : RouterState) (es : List Entry) (t u : RouterState) → r ≡ s → Replays r es t → Replays s es u → t ≡ u
 ends_once r s [] t u is h k = sym h ∙ (is ∙ k)
 ends_once r s (e ∷ es) t u is h k =
@@ -67,7 +67,7 @@ ends_once r s (e ∷ es) t u is h k =
 pub one_state : (text : List ℕ) (history : List Entry) (s t : RouterState) → Legal text history s → Legal text history t → s ≡ t
 one_state text history s t h k = ends_once h.0 k.0 history s t (opened_once text h.0 k.0 h.1 k.1) h.2 k.2
 
--- each state of a history is in order
+-- Replaying a history keeps the router's state sound.
 replayed-in-order : (s : RouterState) (es : List Entry) (last : RouterState) → IsInOrder s → Replays s es last → IsInOrder last
 replayed-in-order s [] last o h = subst IsInOrder h o
 replayed-in-order s (e ∷ es) last o h = replayed-in-order h.0 es last (answered-in-order s h.0 e.call e.reply o h.1) h.2

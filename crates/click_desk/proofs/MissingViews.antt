@@ -1,4 +1,4 @@
--- Where no views are asked for, none is why.
+-- The first fault of an opening with no views is that of an opening without views.
 use Rattle.std.proofs.Common.{ℕ, ◌<◌, List, arith}
 use Rattle.click_rings.specs.Feeds.{FeedName}
 use Rattle.click_desk.specs.declared.open.OpenFault.{OpenFault}

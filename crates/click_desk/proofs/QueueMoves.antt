@@ -16,7 +16,7 @@ use Rattle.click_desk.specs.Rule.{Fits, IsHeld, Place, AtEachPass, HasOneHistory
 use Rattle.click_desk.proofs.HistoryBounds.{within_none}
 use Rattle.click_desk.proofs.Histories.{starts_here, starts_empty, starts_along}
 
--- lists of views
+-- Lists of views.
 set_at : (l : List View) (i : ℕ) (a b : View) → get_elem? l i ≡ some b → get_elem? (set l i a) i ≡ some a
 set_at [] zero a b e = absurd (some-ne-none b (sym e))
 set_at [] (suc i) a b e = absurd (some-ne-none b (sym e))
@@ -49,7 +49,7 @@ at_kept (x ∷ l) zero (suc j) a b e = inl e
 at_kept (x ∷ l) (suc i) zero a b e = inl e
 at_kept (x ∷ l) (suc i) (suc j) a b e = ⊎_elim (λ h. inl h) (λ h. inr (ap suc h.0, h.1)) (at_kept l i j a b e)
 
--- who holds still does where its view changes and it holds as before
+-- The holder stays the same if a view changes in other respects.
 held_set : (views : List View) (port : ℕ) (v w : View) (holder : ℕ) → get_elem? views port ≡ some v → w.holds ≡ v.holds → IsHeld views holder → IsHeld (set views port w) holder
 held_set views port v w holder at same h =
     ⊎_elim (λ (x : get_elem? (set views port w) holder ≡ some h.0). (h.0, x, h.2))
@@ -69,7 +69,7 @@ place_same items views later history options holder f (inr h) = inr h
 cons_nil : (x : LoggedRouterState) (items : List LoggedRouterState) → x ∷ items ≡ [] → ⊥
 cons_nil x items e = cc
 
--- what a pop finds
+-- What a pop of the queue finds.
 found : (x : LoggedRouterState) (items : List LoggedRouterState) (views : List View) (history : List Entry) (options : DeskSetup) (holder : ℕ) → Place (x ∷ items) views history options holder → (items ≡ []) × (x.options ≡ options) × (x.entries ≡ history)
 found x items views history options holder (inl h) = absurd (cons_nil x items h.0)
 found x items views history options holder (inr h) =
@@ -82,14 +82,14 @@ first_only : (pass : ℕ) (v : View) → get_elem? (first ∷ []) pass ≡ some 
 first_only zero v e = (refl, some-injective first v e)
 first_only (suc pass) v e = absurd (some-ne-none v (sym e))
 
--- once the terms are known, the rest of the rule is kept
+-- The rule after the first give: a pass that knows the options shows that it has happened.
 kept_of : (items : List LoggedRouterState) (views : List View) (pass : ℕ) (v : View) → v.opened ≡ true → get_elem? views pass ≡ some v → OnePlace items views → HasOneHistory items views
 kept_of items views pass v opened at (inl h) =
     let is = (first_only pass v (ap (λ (l : List View). get_elem? l pass) (sym h.1) ∙ at)).1 in
     absurd (true≢false (sym opened ∙ ap (λ (y : View). y.opened) (sym is)))
 kept_of items views pass v opened at (inr k) = k
 
--- a take
+-- Taking the logged router keeps the rule.
 pub takes : (pass : ℕ) (v : View) → v.opened ≡ true → Pops OnePlace pass v (Takes v)
 takes pass v opened x items views rule at =
     let k = kept_of (x ∷ items) views pass v opened at rule in
@@ -136,7 +136,7 @@ takes pass v opened x items views rule at =
       ),
     )
 
--- a give
+-- Giving the logged router back keeps the rule.
 pub gives : (n pass : ℕ) (v : View) (x : LoggedRouterState) → MayGive v x → Pushes OnePlace n pass v x (Gives v x)
 gives n pass v x m items views room rule at =
     let k = kept_of items views pass v m.opened at rule in
@@ -179,7 +179,7 @@ gives n pass v x m items views room rule at =
       refl,
     )
 
--- the first give, which sets the terms
+-- The first give, which sets the options, keeps the rule.
 pub opens : (n pass : ℕ) (v : View) (x : LoggedRouterState) → v ≡ first → x.entries ≡ [] → Pushes OnePlace n pass v x (Gives v x)
 opens n pass v x is empty items views room (inl h) at =
     let p = (first_only pass v (ap (λ (l : List View). get_elem? l pass) (sym h.1) ∙ at)).0 in
@@ -212,7 +212,7 @@ opens n pass v x is empty items views room (inr k) at =
     let h = (k.fits pass v at).holds (ap (λ (y : View). y.holds) is) in
     absurd (true≢false (sym h.0 ∙ ap (λ (y : View). y.opened) is))
 
--- one seat more
+-- Making one more seat keeps the rule.
 pub seats : (pass : ℕ) (v : View) → v.opened ≡ true → v.makes ≡ true → v.acts ≡ false → Forks OnePlace pass v (one_more v) (next_seat v)
 seats pass v opened makes idle items views rule at =
     let k = kept_of items views pass v opened at rule in
@@ -260,7 +260,7 @@ seats pass v opened makes idle items views rule at =
       fits = all_behind F vs right (all_set F views pass left mine others) new;
     })
 
--- a pass of no seat
+-- Creating a pass without a seat keeps the rule.
 pub agents : (pass : ℕ) (v : View) → v.opened ≡ true → Forks OnePlace pass v v (agent v.options)
 agents pass v opened items views rule at =
     let k = kept_of items views pass v opened at rule in
@@ -287,7 +287,7 @@ agents pass v opened items views rule at =
       fits = all_behind F vs right (all_set F views pass v f (λ j u _ e. k.fits j u e)) new;
     })
 
--- a seat meets who holds the booked router
+-- Joining a seat's pass with the pass that holds the logged router keeps the rule.
 pub meets : (pass : ℕ) (v : View) (other : ℕ) (w : View) → v.opened ≡ true → w.holds ≡ true → Merges OnePlace pass v other w (met v w) nobody
 meets pass v other w opened held items views rule at two at2 =
     let k = kept_of items views pass v opened at rule in
@@ -334,7 +334,7 @@ meets pass v other w opened held items views rule at two at2 =
       fits = all_set F vs other nobody spent (λ j u apart e. now j u e apart);
     })
 
--- and they part
+-- Splitting the joined pass keeps the rule.
 pub parts : (pass : ℕ) (v : View) → v.opened ≡ true → v.holds ≡ true → Forks OnePlace pass v (parted v) (holding v.options v.seen)
 parts pass v opened held items views rule at =
     let k = kept_of items views pass v opened at rule in
@@ -379,12 +379,12 @@ parts pass v opened held items views rule at =
       fits = all_behind F vs right (all_set F views pass left mine others) new;
     })
 
--- who holds the booked router finds the queue empty
+-- A pass that holds the logged router finds the queue empty.
 pub empties : (pass : ℕ) (v : View) → Learns OnePlace pass v (λ items. v.holds ≡ true → items ≡ [])
 empties pass v items views (inl h) at held = h.0
 empties pass v items views (inr k) at held = ((k.fits pass v at).holds held).1
 
--- and knows the whole history
+-- A pass that holds the logged router knows the whole history.
 pub audits : (pass : ℕ) (v : View) → v.opened ≡ true → v.holds ≡ true → Learns OnePlace pass v (Audits v)
 audits pass v opened held items views rule at =
     let k = kept_of items views pass v opened at rule in
@@ -394,6 +394,6 @@ audits pass v opened held items views rule at =
       (λ t. ap (λ l. entries l v.number) h ∙ (f.acts t).1),
     )
 
--- the rule holds of a new queue
+-- The rule holds of a new queue.
 pub begins : OnePlace [] (first ∷ [])
 begins = inl (refl, refl)

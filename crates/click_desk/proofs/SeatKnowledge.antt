@@ -1,4 +1,5 @@
--- What a seat knows after a take, an entering and a give.
+-- What a seat knows after its pass took the logged router, a call was entered, and the pass gave it
+-- back.
 use Rattle.std.proofs.Common.{◌≡◌, ◌↔◌, ℕ, List, [], ◌∷◌, ◌++◌, length, ◌<◌, ◌≤◌, Result, Ok, Err, Some, IfOk, IfErr, OnErr, sym, refl, ap, ◌∙◌, subst, arith, append-nil, length-append}
 use Rattle.atomic_table.specs.Seated.{TableId}
 use Rattle.click_router.specs.declared.call.Call.{Call}
@@ -22,7 +23,7 @@ use Rattle.click_desk.specs.SeatStates.{SeatState, IsSeat, Calls as HasCalled, I
 use Rattle.click_desk.proofs.HistoryBounds.{full_is, is_full}
 use Rattle.click_desk.proofs.Histories.{entries_mine, entries_other, all_below}
 
--- what an entering of a call says of the booked router and of the seat's list
+-- What entering a call does to the logged router and to the seat's list.
 pub record Enters (b b2 : LoggedRouterState) (n : ℕ) (calls calls2 : List (Call × Reply)) (call : Call) (result : Result Reply DeskFault) : Type 0 where
   pub options : b2.options ≡ b.options
   pub legal : Legal b2.options.opening b2.entries b2.state
@@ -30,20 +31,20 @@ pub record Enters (b b2 : LoggedRouterState) (n : ℕ) (calls calls2 : List (Cal
   pub err : OnErr result ((b2 ≡ b) × (calls2 ≡ calls))
   pub full : (result ≡ Err HistoryFull) ↔ IsFull b.options.room (length b.entries)
 
--- no history is longer than the room
+-- The history is within the room after a call is entered.
 within_at : (t : DeskSetup) (n : ℕ) (calls : List (Call × Reply)) (seen : List Entry) (b b2 : LoggedRouterState) (calls2 : List (Call × Reply)) (call : Call) (result : Result Reply DeskFault)
     → Finds (seated t n calls seen) b → Enters b b2 n calls calls2 call result → IsWithin b2.options.room (length b2.entries)
 within_at t n calls seen b b2 calls2 call (Ok reply) finds enters = enters.ok.2
 within_at t n calls seen b b2 calls2 call (Err fault) finds enters = subst (λ (x : LoggedRouterState). IsWithin x.options.room (length x.entries)) (sym enters.err.0) finds.2
 
--- no entry is of a seat that is not made
+-- After a call is entered, no entry is of a seat that the desk does not have.
 numbered_at : (t : DeskSetup) (n : ℕ) (calls : List (Call × Reply)) (seen : List Entry) (b b2 : LoggedRouterState) (calls2 : List (Call × Reply)) (call : Call) (result : Result Reply DeskFault)
     → n < t.seats → Finds (seated t n calls seen) b → Enters b b2 n calls calls2 call result → (m : ℕ) → t.seats ≤ m → entries b2.entries m ≡ []
 numbered_at t n calls seen b b2 calls2 call (Ok reply) made finds enters m above =
     ap (λ l. entries l m) enters.ok.0 ∙ (entries_other b.entries n call reply m (λ (same : m ≡ n). omega arith) ∙ finds.4 m above)
 numbered_at t n calls seen b b2 calls2 call (Err fault) made finds enters m above = ap (λ (x : LoggedRouterState). entries x.entries m) enters.err.0 ∙ finds.4 m above
 
--- the fault of a result
+-- The fault of a result, or a default.
 abbrev fault_or : DeskFault → Result Reply DeskFault → DeskFault
 fault_or other (Ok reply) = other
 fault_or other (Err fault) = fault
@@ -83,7 +84,7 @@ may_give n calls v v1 b b2 calls2 call result is made takes enters =
     let now : taken s b ≡ v1 = ap (λ y. taken y b) (sym is) ∙ sym takes.0 in
     subst (λ (y : View). MayGive y b2) now (may_give_at v.options n calls v.seen b b2 calls2 call result made (subst (λ (y : View). Finds y b) is takes.1) enters)
 
--- the seat's pass is again one that gave everything back
+-- After the give, the seat's pass is again that of a seat which holds nothing.
 pub settled : (n : ℕ) (calls : List (Call × Reply)) (v v1 v2 : View) (b b2 : LoggedRouterState) → v ≡ seated v.options n calls v.seen → Takes v b v1 → Gives v1 b2 v2 → v2 ≡ seated b2.options n (entries b2.entries n) b2.entries
 settled n calls v v1 v2 b b2 is takes gives = gives ∙ (ap (λ y. given y b2) takes.0 ∙ ap (λ y. given (taken y b) b2) is)
 
@@ -92,7 +93,7 @@ own_at n calls b b2 calls2 call (Ok reply) own enters =
     ap (λ l. entries l n) enters.ok.0 ∙ (entries_mine b.entries n call reply ∙ (ap (λ l. l ++ (call, reply) ∷ []) own ∙ sym enters.ok.1))
 own_at n calls b b2 calls2 call (Err fault) own enters = ap (λ (x : LoggedRouterState). entries x.entries n) enters.err.0 ∙ (own ∙ sym enters.err.1)
 
--- a seat as contracts see it, by its pass
+-- The value of a seat in contracts, from what its pass knows.
 abbrev pub sitting : TableId → ℕ → List (Call × Reply) → View → SeatState
 sitting table n calls v = record { desk = record { table = table; options = terms_of v.options }; feeds = v.options.feeds; number = n; calls = calls; seen = v.seen }
 
@@ -157,7 +158,7 @@ refuses table table2 n calls v v1 v2 b b2 calls2 call (Err fault) is made takes 
       sound = (sound table2 n calls v v1 v2 b b2 calls2 call (Err fault) is made takes enters gives).1;
     }
 
--- what an entering of a poll says
+-- What entering a Poll does to the logged router and to the seat's list.
 pub record EntersPoll (b b2 : LoggedRouterState) (n : ℕ) (calls calls2 : List (Call × Reply)) (device : List ℕ) (limit : ℕ) (result : Result Reply DeskFault) : Type 0 where
   pub options : b2.options ≡ b.options
   pub legal : Legal b2.options.opening b2.entries b2.state
@@ -165,7 +166,7 @@ pub record EntersPoll (b b2 : LoggedRouterState) (n : ℕ) (calls calls2 : List 
   pub err : OnErr result ((b2 ≡ b) × (calls2 ≡ calls))
   pub full : (result ≡ Err HistoryFull) ↔ IsFull b.options.room (length b.entries)
 
--- it is the entering of some call, which is a poll where the poll was entered
+-- Entering a Poll is entering some call, which is a Poll if it succeeded.
 abbrev pub SomeCall : LoggedRouterState → LoggedRouterState → ℕ → List (Call × Reply) → List (Call × Reply) → List ℕ → ℕ → Result Reply DeskFault → Type 0
 SomeCall b b2 n calls calls2 device limit result =
     (call : Call) × Enters b b2 n calls calls2 call result × IfOk result (λ reply. (taken : List Packet) × (call ≡ poll device taken) × MayTake b2.options.feeds device limit taken reply)
@@ -190,7 +191,7 @@ polls table table2 n calls v v1 v2 b b2 calls2 device limit (Ok reply) is made t
       calls = subst (λ (x : Call). HasCalled (sitting table n calls v) (sitting table2 n calls2 v2) x reply) some.2.1 all;
     }
 
--- what an entering of a Round says
+-- What entering a Round does to the logged router and to the seat's list.
 pub record EntersRound (b b2 : LoggedRouterState) (n : ℕ) (calls calls2 : List (Call × Reply)) (result : Result ℕ DeskFault) : Type 0 where
   pub options : b2.options ≡ b.options
   pub legal : Legal b2.options.opening b2.entries b2.state
@@ -198,12 +199,12 @@ pub record EntersRound (b b2 : LoggedRouterState) (n : ℕ) (calls calls2 : List
   pub err : OnErr result ((b2 ≡ b) × (calls2 ≡ calls))
   pub full : (result ≡ Err HistoryFull) ↔ IsFull b.options.room (length b.entries)
 
--- the reply of a Round
+-- The result of a Round as the result of a call.
 abbrev pub worked : Result ℕ DeskFault → Result Reply DeskFault
 worked (Ok count) = Ok (reply.Worked count)
 worked (Err fault) = Err fault
 
--- it is the entering of that call
+-- Entering a Round is entering the call Round.
 pub as_round : (b b2 : LoggedRouterState) (n : ℕ) (calls calls2 : List (Call × Reply)) (result : Result ℕ DeskFault)
     → EntersRound b b2 n calls calls2 result → Enters b b2 n calls calls2 call.Round (worked result)
 as_round b b2 n calls calls2 (Ok count) e = record { options = e.options; legal = e.legal; ok = e.ok; err = e.err; full = (λ is. absurd cc, λ full. let is = e.full.1 full in absurd cc) }

@@ -1,4 +1,4 @@
--- What a close rests on.
+-- Lemmas about seats and their entries, for the close.
 use Rattle.std.proofs.Common.{◌≡◌, ◌⊎◌, inl, inr, ℕ, zero, suc, true, false, ◌==◌, cond, List, [], ◌∷◌, ◌++◌, length, ◌<◌, ◌≤◌, ◌+◌, slice_index_or, count_by, map, sym, refl, ap, ◌∙◌, arith}
 use Rattle.std.proofs.lemmas.Bool.{cases_lt}
 use Rattle.std.proofs.lemmas.Bool.Decides.{nat_tests}
@@ -19,26 +19,27 @@ index_of [] i x d e = absurd (some-ne-none x (sym e))
 index_of (y ∷ l) zero x d e = some-injective y x e
 index_of (y ∷ l) (suc i) x d e = index_of l i x d e
 
--- where each number is there once, some seat is there
+-- If each number below n is that of exactly one seat, and n is not 0, there is a seat.
 pub some_seat : (n : ℕ) (seats : List SeatState) → 0 < n → IsEachOnce n seats → 0 < length seats
 some_seat n [] above once = absurd (let e : 0 ≡ 1 = once 0 above in omega arith)
 some_seat n (s ∷ seats) above once = omega arith
 
--- where each number below n is a seat's, and no other number has entries, each entry bears the number of one seat
+-- If each number below n is that of exactly one seat, and other numbers have no entries, each entry
+-- is of exactly one seat.
 pub each_seated : (n : ℕ) (seats : List SeatState) (es : List Entry) → IsEachOnce n seats → ((k : ℕ) → n ≤ k → entries es k ≡ []) → All (λ e. count_by (λ s. s.number == e.seat) seats ≡ 1) es
 each_seated n seats es once none k d below = once (slice_index_or es k d).seat (all_below n es none k d below)
 
--- new seats belong to their desk
+-- New seats belong to their desk.
 pub all_belong : (desk : DeskName) (feeds : List FeedName) (n : ℕ) → All (λ s. s.desk ≡ desk) (seats_below desk feeds n)
 all_belong desk feeds zero = λ k d below. absurd (omega arith)
 all_belong desk feeds (suc n) = All-push (λ s. s.desk ≡ desk) (seats_below desk feeds n) (new_seat desk feeds n) (all_belong desk feeds n) refl
 
--- and have its feeds
+-- New seats have the feeds of their desk.
 pub all_fed : (desk : DeskName) (feeds : List FeedName) (n : ℕ) → All (λ s. s.feeds ≡ feeds) (seats_below desk feeds n)
 all_fed desk feeds zero = λ k d below. absurd (omega arith)
 all_fed desk feeds (suc n) = All-push (λ s. s.feeds ≡ feeds) (seats_below desk feeds n) (new_seat desk feeds n) (all_fed desk feeds n) refl
 
--- how often a number stands there, one seat more
+-- The number of seats with a given number, after one more seat is appended.
 count_more : (k : ℕ) (xs : List SeatState) (x : SeatState) → count_by (λ s. s.number == k) (xs ++ x ∷ []) ≡ count_by (λ s. s.number == k) xs + cond (x.number == k) 1 0
 count_more k xs x = sum_by_push (λ (s : SeatState). cond (s.number == k) 1 0) xs x
 
@@ -57,7 +58,7 @@ count_here desk feeds n k (inr above) below once =
     let same : (n == k) ≡ true = grind (arith, nat_tests) in
     count_more k (seats_below desk feeds n) (new_seat desk feeds n) ∙ (ap (λ a. a + cond (n == k) 1 0) (count_above desk feeds n k above) ∙ ap (λ b. 0 + cond b 1 0) same)
 
--- new seats have each number once
+-- Each number below n is that of exactly one new seat.
 pub new_once : (desk : DeskName) (feeds : List FeedName) (n : ℕ) → IsEachOnce n (seats_below desk feeds n)
 new_once desk feeds zero = λ k below. absurd (omega arith)
 new_once desk feeds (suc n) = λ k below. count_here desk feeds n k (cases_lt k n) below (new_once desk feeds n)
@@ -68,6 +69,6 @@ count_numbers k (x ∷ xs) =
     sum_by-cons (λ (s : SeatState). cond (s.number == k) 1 0) x xs
     ∙ (ap (λ m. cond (x.number == k) 1 0 + m) (count_numbers k xs) ∙ sym (sum_by-cons (λ (m : ℕ). cond (m == k) 1 0) x.number (map (λ (s : SeatState). s.number) xs)))
 
--- seats with the same numbers have each number once
+-- Whether each number is that of exactly one seat depends only on the numbers of the seats.
 pub same_once : (n : ℕ) (xs ys : List SeatState) → map (λ (s : SeatState). s.number) xs ≡ map (λ (s : SeatState). s.number) ys → IsEachOnce n xs → IsEachOnce n ys
 same_once n xs ys same once k below = count_numbers k ys ∙ (ap (λ l. count_by (λ m. m == k) l) (sym same) ∙ (sym (count_numbers k xs) ∙ once k below))

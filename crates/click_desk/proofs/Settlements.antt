@@ -1,4 +1,4 @@
--- What a settlement rests on.
+-- Lemmas about the feeds that are left, for settling a feed.
 use Rattle.std.proofs.Common.{◌≡◌, ℕ, zero, suc, ◌<◌, Bool, true, false, ◌||◌, if◌then◌else◌, List, [], ◌∷◌, map, length, slice_index_or, slice_set, sym, refl, ap, ◌∙◌, true≢false, arith}
 use Rattle.std.specs.List.{All, remove}
 use Rattle.std.specs.Str.{bytes_eq}
@@ -6,7 +6,7 @@ use Rattle.click_rings.specs.Feeds.{ConsumerState, FeedName, name_of, has_feed, 
 use Rattle.click_rings.proofs.Draws.{has_at, none_first, none_rest, first_apart, rest_apart, other_first, is_itself, same_device}
 use Rattle.click_desk.specs.Polls.{without}
 
--- taking the inlet of a device out
+-- Removing the inlet of a device from the list gives `without`.
 pub without_at : (device : List ℕ) (is : List ConsumerState) (k : ℕ) (y : ConsumerState) → IsPlace device is k → have_distinct_devices (map name_of is) ≡ true → remove (slice_set is k y) k ≡ without device is
 without_at device [] k y at apart = let h = at.0 in absurd (omega arith)
 without_at device (i ∷ is) zero y at apart =
@@ -28,7 +28,7 @@ all_choice : (P : ConsumerState → Type 0) (i : ConsumerState) (is rest : List 
 all_choice P i is rest true here all kept = all
 all_choice P i is rest false here all kept = all_cons P i rest here kept
 
--- what is left has what all had
+-- What holds for all feeds holds for those that are left.
 pub all_without : (P : ConsumerState → Type 0) (device : List ℕ) (is : List ConsumerState) → All P is → All P (without device is)
 all_without P device [] all = all
 all_without P device (i ∷ is) all =
@@ -45,7 +45,7 @@ has_without d device [] none = none
 has_without d device (i ∷ is) none =
     none_choice d i is (without device is) (bytes_eq i.device device) none (has_without d device is (none_rest (bytes_eq i.device d) (has_feed d (map name_of is)) none))
 
--- a device's own feed is not that of another one
+-- A lookup for a device skips the feed of another device.
 or_other : (a b : Bool) → (a ≡ true → ⊥) → (a || b) ≡ true → b ≡ true
 or_other true b never has = absurd (never refl)
 or_other false b never has = has
@@ -60,7 +60,7 @@ has_choice d device i is rest true here other kept has =
     or_other (bytes_eq i.device d) (has_feed d (map name_of is)) (λ same. other (sym (same_device i.device d same) ∙ same_device i.device device here)) has
 has_choice d device i is rest false here other kept has = or_either (bytes_eq i.device d) (has_feed d (map name_of is)) (has_feed d (map name_of rest)) kept has
 
--- what is left has each other device's
+-- The feeds that are left include those of all other devices.
 pub has_others : (d device : List ℕ) (is : List ConsumerState) → (d ≡ device → ⊥) → has_feed d (map name_of is) ≡ true → has_feed d (map name_of (without device is)) ≡ true
 has_others d device [] other has = has
 has_others d device (i ∷ is) other has = has_choice d device i is (without device is) (bytes_eq i.device device) refl other (has_others d device is other) has
@@ -72,7 +72,7 @@ apart_choice : (i : ConsumerState) (is rest : List ConsumerState) (b : Bool) →
 apart_choice i is rest true apart kept = apart
 apart_choice i is rest false apart kept = kept
 
--- what is left is apart
+-- The devices of the feeds that are left are distinct.
 pub apart_without : (device : List ℕ) (is : List ConsumerState) → have_distinct_devices (map name_of is) ≡ true → have_distinct_devices (map name_of (without device is)) ≡ true
 apart_without device [] apart = apart
 apart_without device (i ∷ is) apart =
@@ -96,7 +96,8 @@ away_at device (i ∷ is) zero x away below same =
 away_at device (i ∷ is) (suc k) x away below same =
     away_at device is k x (none_rest (bytes_eq i.device device) (has_feed device (map name_of is)) away) (omega arith) same
 
--- of inlets that are apart, those of the first feed's device have its ring
+-- If the devices of the inlets are distinct, the inlet of the first feed's device has the ring of
+-- that feed.
 pub own_ring : (n : FeedName) (others : List FeedName) (is : List ConsumerState) → map name_of is ≡ n ∷ others → have_distinct_devices (map name_of is) ≡ true
     → All (λ i. i.device ≡ n.device → i.ring ≡ n.ring) is
 own_ring n others [] same apart k x below = absurd (omega arith)
@@ -106,7 +107,7 @@ own_ring n others (i ∷ is) same apart (suc k) x below = λ here.
     let away : has_feed n.device (map name_of is) ≡ false = ap (λ d. has_feed d (map name_of is)) (sym first) ∙ first_apart i is apart in
     absurd (away_at n.device is k x away (omega arith) here)
 
--- without the first feed's, the others are left
+-- Without the first feed, the other feeds are left.
 pub others_left : (n : FeedName) (others : List FeedName) (is : List ConsumerState) → map name_of is ≡ n ∷ others → map name_of (without n.device is) ≡ others
 others_left n others [] same = absurd (let e : 0 ≡ length (n ∷ others) = ap length same in omega arith)
 others_left n others (i ∷ is) same =

@@ -1,4 +1,4 @@
--- A closed desk's book as contracts see it.
+-- The value of a closed desk's book in contracts.
 use Rattle.std.specs.Prelude.{ℕ, Bool, List}
 use Rattle.boxcar.specs.Table.{Shelves}
 use Rattle.click_rings.specs.Feeds.{ConsumerState}
@@ -6,7 +6,7 @@ use Rattle.click_router.specs.State.{RouterState}
 use Rattle.click_desk.specs.declared.entry.Entry.{Entry}
 use Rattle.click_desk.specs.SeatStates.{SeatState}
 
--- it keeps its entries, or there is a list of them that only proofs know
+-- A book. `keeps` says whether its entries are stored; otherwise they are ghost state.
 pub record BookState : Type 0 where
   pub opening : List ℕ
   pub keeps : Bool

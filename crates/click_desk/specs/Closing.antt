@@ -1,4 +1,4 @@
--- What a closed desk's book says.
+-- What the book of a closed desk promises.
 use Rattle.std.specs.Prelude.{◌≡◌, ℕ, ◌<◌, ◌==◌, List, count_by, is_some, length, map, slice_index_or}
 use Rattle.std.specs.List.{All}
 use Rattle.click_desk.specs.declared.entry.Entry.{Entry}
@@ -9,15 +9,16 @@ use Rattle.click_rings.specs.Feeds.{name_of}
 use Rattle.click_desk.specs.Polls.{IsPolled}
 use Rattle.click_desk.specs.SeatStates.{DeskName, SeatState}
 
--- each seat number below n stands there once
+-- Each number below n is that of exactly one of the seats.
 abbrev pub IsEachOnce : ℕ → List SeatState → Type 0
 IsEachOnce n seats = (k : ℕ) → k < n → count_by (λ s. s.number == k) seats ≡ 1
 
--- the history has of the seat just the calls that it made, with the replies that it got, and begins with what it had seen
+-- The entries of the seat are exactly its calls and replies, in order, and what it has seen is a
+-- prefix of the history.
 abbrev pub IsEntered : List Entry → SeatState → Type 0
 IsEntered history s = (entries history s.number ≡ s.calls) × StartsWith history s.seen
 
--- the book of a desk whose seats are these
+-- The theorem about the book of a desk that was closed with these seats.
 pub record Closes (desk : DeskName) (seats : List SeatState) (book : BookState) : Type 0 where
   pub seats_are : book.seats ≡ seats
   pub opening : book.opening ≡ desk.options.opening

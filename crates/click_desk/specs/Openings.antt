@@ -1,4 +1,4 @@
--- Why a desk is not opened.
+-- The faults for which a desk is not opened.
 use Rattle.std.specs.Prelude.{◌≡◌, ◌<◌, ◌≤◌, ◌⊎◌, ℕ, true, false, List, [], length}
 use Rattle.click_rings.specs.Feeds.{FeedName, have_distinct_devices}
 use Rattle.click_router.specs.Opened.{IsFirstFault}
@@ -7,12 +7,13 @@ use Rattle.click_router.specs.declared.fault.FaultKind.TheVariants as kind
 use Rattle.click_desk.specs.declared.open.OpenFault.{OpenFault}
 use Rattle.click_desk.specs.declared.open.OpenFault.TheVariants as fault
 
--- so many seats and these inlets can be of one desk
+-- A desk can have this many seats and these inlets.
 abbrev pub AreFit : ℕ → List FeedName → Type 0
 AreFit seats inlets = (0 < seats) × (seats ≤ 256) × (have_distinct_devices inlets ≡ true) × (length inlets ≤ 16)
 
--- The first of these that is so, where no views are asked for: the number of seats, a device that is there twice, the number of inlets, the configuration; want of memory
--- may stand in place of the last.
+-- The first fault of an opening without views, in this order: the number of seats, two inlets of
+-- one device, the number of inlets, the configuration. If the seats and the inlets are allowed, it
+-- may also be out of memory.
 abbrev pub IsOpenFault : ℕ → List FeedName → List ℕ → OpenFault → Type 0
 IsOpenFault seats inlets text fault.SeatCount = (seats ≡ 0) ⊎ (256 < seats)
 IsOpenFault seats inlets text fault.DeviceTwice = (0 < seats) × (seats ≤ 256) × (have_distinct_devices inlets ≡ false)
@@ -22,7 +23,8 @@ IsOpenFault seats inlets text fault.NoMemory = AreFit seats inlets
 IsOpenFault seats inlets text fault.ViewCount = ⊥
 IsOpenFault seats inlets text fault.NoView = ⊥
 
--- The same where views are asked for: their number is tested after that of the inlets, and last of all, where the configuration is good, a view may not be had.
+-- The first fault of an opening with views. Their number is tested after that of the inlets. If all
+-- else is right, the last fault is that a view is not available.
 abbrev pub IsViewFault : ℕ → List FeedName → ℕ → List ℕ → OpenFault → Type 0
 IsViewFault seats inlets views text fault.SeatCount = IsOpenFault seats inlets text fault.SeatCount
 IsViewFault seats inlets views text fault.DeviceTwice = IsOpenFault seats inlets text fault.DeviceTwice
@@ -32,7 +34,7 @@ IsViewFault seats inlets views text (fault.Config why) = (views ≤ 16) × IsOpe
 IsViewFault seats inlets views text fault.NoMemory = (views ≤ 16) × IsOpenFault seats inlets text fault.NoMemory
 IsViewFault seats inlets views text fault.NoView = AreFit seats inlets × (views ≤ 16) × IsLegal text [] × (0 < views)
 
--- memory ran out for a view, or one more could not be had
+-- The fault of creating a view: out of memory, or no more views can be counted.
 abbrev pub IsViewless : OpenFault → Type 0
 IsViewless fault.SeatCount = ⊥
 IsViewless fault.DeviceTwice = ⊥

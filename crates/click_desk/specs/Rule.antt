@@ -1,5 +1,6 @@
--- The rule of the queue of one place. It speaks of histories, of seat numbers, and of what the desk was opened with (text, room, number of seats, which feeds); never of the
--- router, of its handlers, or of what was drawn from a feed.
+-- The rule of the single-slot queue. It is about histories, seat numbers and what the desk was
+-- opened with: its text, its room, its number of seats, its feeds and its publisher. It mentions
+-- neither the router, nor its handlers, nor what was drawn from a feed.
 use Rattle.std.specs.Prelude.{◌≡◌, ℕ, ◌≤◌, ◌⊎◌, true, List, [], ◌∷◌, length}
 use mathlib.Core.Option.{some}
 use lib.ListN.{get_elem?}
@@ -11,8 +12,9 @@ use Rattle.click_desk.specs.declared.view.View.{View}
 use Rattle.click_desk.specs.History.{entries, StartsWith}
 use Rattle.click_desk.specs.Views.{first}
 
--- what one pass knows fits the history: the terms, what it has seen, that it holds the booked router alone,
--- that the entries of its seat are those that it knows as its own, and that a seat that is not yet made has none
+-- What one pass knows fits the history. A pass that knows the options knows the right ones. What it
+-- has seen is a prefix of the history. If it holds the logged router, it alone does. The entries of
+-- its seat are those that it knows as its own, and a seat that is not yet made has none.
 pub record Fits (items : List LoggedRouterState) (history : List Entry) (options : DeskSetup) (owner : ℕ → ℕ) (holder pass : ℕ) (v : View) : Type 0 where
   pub knows : v.opened ≡ true → v.options ≡ options
   pub seen : StartsWith history v.seen
@@ -21,20 +23,22 @@ pub record Fits (items : List LoggedRouterState) (history : List Entry) (options
   pub acts : v.acts ≡ true → (owner v.number ≡ pass) × (entries history v.number ≡ v.mine)
   pub makes : v.makes ≡ true → (n : ℕ) → v.made ≤ n → (owner n ≡ pass) × (entries history n ≡ [])
 
--- this pass holds the booked router
+-- The pass with this index holds the logged router.
 abbrev pub IsHeld : List View → ℕ → Type 0
 IsHeld views holder = (v : View) × (get_elem? views holder ≡ some v) × (v.holds ≡ true)
 
--- the booked router is in the queue, with this history, or a pass holds it and the queue is empty
+-- Either a pass holds the logged router, and the queue is empty; or the logged router is in the
+-- queue, with this history.
 abbrev pub Place : List LoggedRouterState → List View → List Entry → DeskSetup → ℕ → Type 0
 Place items views history options holder =
     ((items ≡ []) × IsHeld views holder) ⊎ ((b : LoggedRouterState) × (items ≡ b ∷ []) × (b.options ≡ options) × (b.entries ≡ history))
 
--- each pass of the queue is so
+-- `F` holds for each pass of the queue, with its index.
 abbrev pub AtEachPass : (ℕ → View → Type 0) → List View → Type 0
 AtEachPass F views = (pass : ℕ) (v : View) → get_elem? views pass ≡ some v → F pass v
 
--- there is one history, which is in the queue or held, and which what each pass knows fits
+-- The queue and its passes have one history. It is in the queue or held by a pass, it is within the
+-- room, and no entry is of a seat that the desk does not have. What each pass knows fits it.
 pub record HasOneHistory (items : List LoggedRouterState) (views : List View) : Type 0 where
   pub history : List Entry
   pub options : DeskSetup
@@ -45,6 +49,7 @@ pub record HasOneHistory (items : List LoggedRouterState) (views : List View) : 
   pub numbered : (n : ℕ) → options.seats ≤ n → entries history n ≡ []
   pub fits : AtEachPass (Fits items history options owner holder) views
 
--- at first there is one pass, which holds the empty history; from its give on the rest is kept
+-- The rule. At first there is one pass, which holds the empty history. From the first give on,
+-- there is one history.
 abbrev pub OnePlace : List LoggedRouterState → List View → Type 0
 OnePlace items views = ((items ≡ []) × (views ≡ first ∷ [])) ⊎ HasOneHistory items views

@@ -1,4 +1,4 @@
-//! What is left of a closed desk.
+//! The book: what a closed desk leaves.
 
 ghost use Rattle.std.specs.Prelude.{◌≡◌, ◌++◌, ◌↔◌, List, map, true, false, IfOk, IfErr, OnOk};
 ghost use Rattle.std.specs.List.{All};
@@ -21,8 +21,11 @@ use std::alloc::Global;
 use std::marker::Model;
 use thiserror::Error;
 
-/// A closed desk: the text that it was opened with, all calls with their replies, the router that they lead to, the seats that made them, and the feeds that are
-/// not settled. Of a live desk the calls are not kept: there is one list of them, and `entries` lends none.
+/// A closed desk.
+///
+/// It has the text that the desk was opened with, all calls with their replies, and the router that
+/// they lead to. It also has the seats that made the calls, and the feeds that are not settled. For
+/// a live desk the list of calls is ghost state, and `entries` has none at run time.
 #[derive(Drop)]
 pub struct Book<T> {
     pub opening: Sequence<u8>,
@@ -47,17 +50,17 @@ impl<T> Model for Book<T> {
     ghost invariant = { λ b. IsPolled b.entries.items b.consumers.items × (have_distinct_devices (map name_of b.consumers.items) ≡ true) × (b.published.list ≡ installs b.opening b.entries.items) };
 }
 
-/// Why a feed was not settled.
+/// The fault for which a feed was not settled.
 #[derive(Clone, Copy, Debug, PartialEq, Eq, Error)]
 pub enum SettleFault {
-    /// The desk had no feed of the device, or it is settled already.
+    /// The desk had no feed of the device, or the feed is already settled.
     #[error("no such feed")]
     NoFeed,
     #[error("out of memory")]
     NoMemory,
 }
 
-/// The end that was handed in, and why it was not settled.
+/// A feed that was not settled: the end that was handed in, and the fault.
 #[derive(Drop)]
 pub struct SettleRefused {
     pub end: FeedEnd,
@@ -65,7 +68,8 @@ pub struct SettleRefused {
 }
 
 impl<T> Book<T> {
-    /// What a view of this desk showed, in order, are the first of the configurations that the history installed. It takes no memory and answers nothing but this.
+    /// States that what a view showed is a prefix of the installed configurations. The view must be
+    /// of this desk. Never allocates, and does nothing else.
     pub fn meet(&self, view: &View)
         requires { view.now.board ≡ self.now.board }
         ensures { BeginsWith (installs self.now.opening self.now.entries) view.now.list }
@@ -73,7 +77,12 @@ impl<T> Book<T> {
         self.published.meet(&view.shown);
     }
 
-    /// The packets that the feed of this device put and that no poll took. The end is of that feed. What the history polled of the device is a beginning of what the feed put, also where memory runs out.
+    /// Settles the feed of this device: returns the packets that were put into it and not polled.
+    /// The end must be that of the desk's feed of this device.
+    ///
+    /// Fails with `NoFeed` if there is no such feed or it is already settled, and otherwise with
+    /// out of memory; the book is then unchanged. What the history polled of the device is a prefix
+    /// of what was put, also if this fails with out of memory.
     pub fn settle(
         &mut self,
         alloc: Global,

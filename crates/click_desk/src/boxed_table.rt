@@ -6,7 +6,9 @@ use click_packet::PacketRoom;
 use click_router::{Call, Handlers, RunningConfig, StepFault, StoredReply};
 use std::alloc::Global;
 
-/// A table of handlers in a box. Each call at a desk moves the desk's table out of the queue and back, which costs less where that is small.
+/// A table of handlers in a box.
+///
+/// perf: each call moves the desk's table out of the queue and back, and a box is cheaper to move.
 #[derive(Drop)]
 pub struct BoxedTable<T> {
     pub table: Box<T>,

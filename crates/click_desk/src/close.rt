@@ -20,18 +20,19 @@ use std::sync::Wait;
 use std::sync::atomic::AtomicU32;
 use thiserror::Error;
 
-/// Why a desk was not closed.
+/// The fault for which a desk was not closed.
 #[derive(Clone, Copy, Debug, PartialEq, Eq, Error)]
 pub enum CloseFault {
-    /// Not each seat number was handed in once.
+    /// Some seat number was not handed in exactly once.
     #[error("not each seat was given back once")]
     SeatsMissing,
-    /// A seat's list differs from its entries. The rule of the queue leaves no way to it.
+    /// The calls of a seat differ from its entries. Never returned: the rule of the queue excludes
+    /// it.
     #[error("a seat's calls are not its entries")]
     Mismatch,
 }
 
-/// A desk that was not closed, with the seats that were handed in.
+/// A desk that was not closed: the desk, the seats that were handed in, and the fault.
 #[derive(Drop)]
 pub struct CloseRefused<T, R: Wait + Drop> {
     pub desk: Desk<T, R>,
@@ -39,14 +40,14 @@ pub struct CloseRefused<T, R: Wait + Drop> {
     pub fault: CloseFault,
 }
 
-/// How many seats have this number.
+/// Returns how many of the seats have this number.
 fn count_of<T>(seats: &[Seat<T>], number: usize) -> usize
     ensures { result ≡ count_by (λ s. s.number == number) seats.now }
 {
     seats.iter().filter(|s| s.number() == number).count()
 }
 
-/// Each number below `count` stands there once.
+/// Returns whether each number below `count` is that of exactly one seat.
 fn is_each_once<T>(seats: &[Seat<T>], count: usize) -> bool
     ensures { IsTrue result ↔ IsEachOnce count seats.now }
 {
@@ -58,7 +59,7 @@ fn is_each_once<T>(seats: &[Seat<T>], count: usize) -> bool
     true
 }
 
-/// A pass of no seat.
+/// Creates an agent: a pass without a seat, which takes the logged router for the close.
 fn agent<T>(queue: &Queue<T>, seat: &mut Seat<T>) -> DeskPass<T>
     requires { seat.old.desk.table ≡ queue.now.table.shared.table_id }
     ensures same { seat.new ≡ seat.old }
@@ -67,7 +68,10 @@ fn agent<T>(queue: &Queue<T>, seat: &mut Seat<T>) -> DeskPass<T>
     queue.another::<Agent>(&mut seat.pass)
 }
 
-/// Holds the whole history against what the seat knows.
+/// Compares the whole history, which the agent holds, with what the seat knows. Returns the agent.
+///
+/// proof: the seat is unchanged. The passes are joined, the queue's rule is applied, and they are
+/// split again.
 fn audit<T>(queue: &Queue<T>, seat: &mut Seat<T>, agent: DeskPass<T>) -> DeskPass<T>
     requires seat { seat.old.desk.table ≡ queue.now.table.shared.table_id }
     requires agent { IsPassOf queue.now agent × (view agent ≡ holding (view agent).options (view agent).seen) }
@@ -80,7 +84,7 @@ fn audit<T>(queue: &Queue<T>, seat: &mut Seat<T>, agent: DeskPass<T>) -> DeskPas
     queue.another::<Meeting>(&mut seat.pass)
 }
 
-/// Holds the whole history against what each seat knows.
+/// Compares the whole history, which the agent holds, with what each seat knows.
 fn audit_all<T>(queue: &Queue<T>, seats: &mut [Seat<T>], mut agent: DeskPass<T>) -> DeskPass<T>
     requires seats { All (λ s. s.desk.table ≡ queue.now.table.shared.table_id) seats.old }
     requires agent { IsPassOf queue.now agent × (view agent ≡ holding (view agent).options (view agent).seen) }
@@ -93,7 +97,7 @@ fn audit_all<T>(queue: &Queue<T>, seats: &mut [Seat<T>], mut agent: DeskPass<T>)
     agent
 }
 
-/// Takes the booked router for good, and holds its history against what each seat knows.
+/// Takes the logged router for good, and compares its history with what each seat knows.
 fn take_last<T, R: Wait>(
     rt: &R,
     queue: &Queue<T>,
@@ -116,7 +120,10 @@ fn take_last<T, R: Wait>(
 }
 
 impl<T: Drop, R: Wait + Drop> Desk<T, R> {
-    /// Closes the desk, once each of its seats is handed in.
+    /// Closes the desk, if each of its seats is handed in exactly once, and returns the book.
+    /// Blocks until no call is in progress.
+    ///
+    /// Fails with `SeatsMissing`, and returns the desk and the seats, otherwise.
     pub fn close<S: Wait>(
         self,
         rt: &S,

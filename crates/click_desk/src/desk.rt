@@ -1,4 +1,4 @@
-//! A router that many threads share.
+//! The desk: one router that many threads share.
 
 ghost use Rattle.std.specs.Prelude.{◌≡◌, ◌⊎◌, ◌≤◌, [], true, false, IfOk, IfErr};
 ghost use Rattle.click_router.specs.Polls.{is_poll};
@@ -20,12 +20,17 @@ use std::sync::Wait;
 use std::sync::atomic::{AtomicU32, Ordering};
 use std::thread;
 
-/// A router with its history, which seats share. Where it has views, they hear of each swap by a bell, which keeps the runtime `R` that it waits by.
+/// A router and its history, shared by the seats of many threads.
+///
+/// While no call is in progress, `queue`, which has a single slot, holds the logged router: the
+/// router with its history and its feeds. A call takes it out, makes one step and gives it back, so
+/// calls happen one at a time. If the desk has views, a swap announces its configuration to them by
+/// `install_signal`, which keeps the runtime `R` that it blocks with.
 #[derive(Drop)]
 pub struct Desk<T, R: Wait + Drop> {
     pub(crate) alloc: Global,
     pub(crate) queue: Queue<T>,
-    /// How many found the booked router taken, and look for it again and again.
+    /// The number of threads that found the queue empty and are trying again.
     pub(crate) waiting: AtomicU32,
     pub(crate) options: DeskOptions,
     pub(crate) install_signal: Option<InstallSignal<R>>,
@@ -44,17 +49,19 @@ impl<T, R: Wait + Drop> Model for Desk<T, R> {
     ghost invariant = { λ d. (ruled_capacity d.queue ≡ 1) × (0 < d.options.seats) };
 }
 
-/// How often a call yields its core at most, before it looks again for a booked router that another has.
+/// The maximum number of yields between two attempts to take the logged router.
 const MOST_YIELDS: u32 = 4;
 
+/// Yields the core `times` times.
 fn yield_times(times: u32) {
     for _ in 0..times {
         thread::yield_now();
     }
 }
 
-/// Takes the booked router, which another has. It tries again until it finds it, and after each try that failed it yields for longer, since who looks slows down who
-/// has it.
+/// Takes the logged router that another thread holds. Tries again until it succeeds.
+///
+/// perf: backs off (1, 2, then 4 yields between attempts), because polling slows down the holder.
 #[cold]
 #[inline(never)]
 fn wait_for<T, R: Wait>(rt: &R, queue: &Queue<T>, pass: &mut DeskPass<T>) -> LoggedRouter<T>
@@ -74,7 +81,10 @@ fn wait_for<T, R: Wait>(rt: &R, queue: &Queue<T>, pass: &mut DeskPass<T>) -> Log
     unreachable!()
 }
 
-/// Takes the booked router. Who comes while others wait for it yields its core once first, so that one thread that calls and calls does not keep it from them.
+/// Takes the logged router. Blocks until no other thread holds it.
+///
+/// If other threads are waiting, yields once first, so that a thread that calls in a loop cannot
+/// starve them.
 #[inline(always)]
 pub(crate) fn take<T, R: Wait>(
     rt: &R,
@@ -99,7 +109,9 @@ pub(crate) fn take<T, R: Wait>(
     logged_router
 }
 
-/// Gives the booked router back. The queue is empty.
+/// Gives the logged router back.
+///
+/// Never fails: by the queue's rule it is empty while this pass holds the router.
 pub(crate) fn give<T, R: Wait>(
     rt: &R,
     queue: &Queue<T>,
@@ -117,7 +129,9 @@ pub(crate) fn give<T, R: Wait>(
     }
 }
 
-/// The reply of what was entered. It is made last of all, since one has a packet's room and costs to move.
+/// Converts the stored reply of an entry into a `Reply`.
+///
+/// perf: done last, because a `Reply` has room for a packet and is expensive to move.
 #[inline(always)]
 fn entered_reply(entered: Result<StoredReply, DeskFault>) -> Result<Reply, DeskFault>
     ensures { result ≡ entered }
@@ -129,7 +143,7 @@ fn entered_reply(entered: Result<StoredReply, DeskFault>) -> Result<Reply, DeskF
 }
 
 impl<T, R: Wait + Drop> Desk<T, R> {
-    /// The views hear of the newest configuration.
+    /// Announces the newest configuration to the views, if there are any.
     fn signal<S: Wait>(&self, rt: &S, notice: &Notice) {
         if let Some(install_signal) = &self.install_signal {
             install_signal.signal(rt, notice);
@@ -138,7 +152,11 @@ impl<T, R: Wait + Drop> Desk<T, R> {
 }
 
 impl<T: Handlers, R: Wait + Drop> Desk<T, R> {
-    /// One call of a seat that belongs to this desk. A poll is made by `poll`.
+    /// Makes one call through a seat of this desk and returns its reply. For a Poll use `poll`.
+    ///
+    /// Blocks while another call is in progress. Fails with `NoMemory`, or with `HistoryFull` if
+    /// the history has as many entries as the desk has room for. A call that fails changes nothing
+    /// and is not in the history.
     #[inline(always)]
     pub fn call<S: Wait>(&self, rt: &S, seat: &mut Seat<T>, call: Call) -> Result<Reply, DeskFault>
         requires seat { seat.old.desk ≡ self.now }
@@ -150,7 +168,9 @@ impl<T: Handlers, R: Wait + Drop> Desk<T, R> {
         entered_reply(self.record(rt, seat, call))
     }
 
-    /// One call as `call` makes it, with the reply as the history keeps it, which is small.
+    /// Makes one call, as `call` does, and returns the reply in the form that the history stores.
+    ///
+    /// perf: a `StoredReply` is small; a `Reply` has room for a packet.
     #[inline(always)]
     pub fn record<S: Wait>(
         &self,
@@ -175,7 +195,10 @@ impl<T: Handlers, R: Wait + Drop> Desk<T, R> {
         result
     }
 
-    /// One Round of a seat, as `record` makes it, and how many packets its tasks gave or pulled. Drivers make nothing else, so it moves neither a call nor a reply.
+    /// Makes a Round, as `record` does. Returns the number of packets that the tasks emitted or
+    /// pulled.
+    ///
+    /// perf: drivers make nothing but Rounds, so this path moves neither a call nor a reply.
     pub fn round<S: Wait>(&self, rt: &S, seat: &mut Seat<T>) -> Result<u64, DeskFault>
         requires { seat.old.desk ≡ self.now }
         ensures seat { (seat.new.desk ≡ seat.old.desk) × (seat.new.feeds ≡ seat.old.feeds) × (seat.new.number ≡ seat.old.number) }
@@ -190,7 +213,12 @@ impl<T: Handlers, R: Wait + Drop> Desk<T, R> {
         result
     }
 
-    /// Up to `most` packets of a device's feed, 1 to 32, enter in one call. Nothing is drawn where the configuration has no such device, or the desk no feed of it.
+    /// Draws up to `most` packets (1 to 32) from a device's feed and enters them in one call.
+    /// Returns `Entered` with their number.
+    ///
+    /// Draws nothing if the running configuration has no source of the device, which is answered
+    /// with `NoDevice`, or if the desk has no feed of it. Blocks and fails as `call` does; packets
+    /// of a failed poll stay in the feed.
     #[inline(always)]
     pub fn poll<S: Wait>(
         &self,

@@ -1,4 +1,4 @@
-//! What the passes of a desk know of it.
+//! What a desk was opened with, as ghost state of its passes.
 
 use click_base::sequence::Sequence;
 use click_rings::Inlet;
@@ -6,7 +6,8 @@ use click_router::Install;
 use click_views::Origin;
 use std::collections::LinkedList;
 
-/// What a desk was opened with, and which feeds it has. No value of it is made.
+/// What a desk was opened with, and the names of its feeds. It is ghost state: no value of it
+/// exists at run time.
 pub struct DeskSetup {
     pub opening: Sequence<u8>,
     pub room: Option<usize>,

@@ -1,8 +1,8 @@
-//! One call of one seat, with its reply.
+//! The entries of a history.
 
 use click_router::{Call, StoredReply};
 
-/// One call of one seat, with its reply.
+/// A call of one seat, with its reply.
 #[derive(Drop)]
 pub struct Entry {
     pub seat: usize,

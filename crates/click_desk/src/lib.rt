@@ -1,4 +1,4 @@
-//! A router that many threads share, with a history of one thread.
+//! A desk: one router that many threads share, with one history.
 #![tactic(auto)]
 
 mod book;

@@ -1,4 +1,4 @@
-//! The router with its history, as one value.
+//! The logged router: the router with its history and its feeds, as one value.
 
 ghost use Rattle.std.specs.Prelude.{◌≡◌, ◌++◌, ◌∷◌, ◌↔◌, [], length, map, false, IfOk, IfErr, OnErr, Ok, Err, IsTrue, MatchResult, true, is_some};
 ghost use Rattle.std.specs.List.{All};
@@ -29,17 +29,18 @@ use std::marker::Model;
 use std::sync::Wait;
 use thiserror::Error;
 
-/// Why a call was refused. It changed nothing, and is in no list.
+/// The fault of a call that failed. The call changed nothing, and is in no list.
 #[derive(Clone, Copy, Debug, PartialEq, Eq, Error)]
 pub enum DeskFault {
     #[error("out of memory")]
     NoMemory,
-    /// The history has as many entries as it may have.
+    /// The history has as many entries as the desk has room for.
     #[error("history full")]
     HistoryFull,
 }
 
-/// What a desk was opened with, its history, which is kept where it has a bound, and its feeds.
+/// What a desk was opened with, its history and its feeds, and the end that publishes
+/// configurations. The history is stored if it has a bound.
 #[derive(Drop)]
 pub(crate) struct RouterLog {
     pub(crate) options: DeskOptions,
@@ -48,8 +49,10 @@ pub(crate) struct RouterLog {
     pub(crate) published: Publisher<Install>,
 }
 
-/// A router and its history, which leads from the opening text to it, with the feeds from which was drawn what the history polled. It is small, since each call
-/// moves it out of the queue and back.
+/// A router with its history, which leads from the opening text to it. What was drawn from its
+/// feeds is what the history polled.
+///
+/// perf: it is small, because each call moves it out of the queue and back.
 #[derive(Drop)]
 pub struct LoggedRouter<T> {
     pub(crate) router_log: Box<RouterLog>,
@@ -75,7 +78,7 @@ impl<T> Model for LoggedRouter<T> {
 }
 
 impl<T> LoggedRouter<T> {
-    /// A router of the ledger's text, with an empty history, and feeds from which nothing was drawn.
+    /// Returns a router of the log's text, with an empty history. Nothing was drawn from its feeds.
     pub fn new(router_log: Box<RouterLog>, router: Router<T>) -> LoggedRouter<T>
         requires opened { IsOpened router_log.value.options.opening router }
         requires empty { router_log.value.entries.items ≡ [] }
@@ -88,7 +91,7 @@ impl<T> LoggedRouter<T> {
         LoggedRouter { router_log, router }
     }
 
-    /// Its parts.
+    /// Returns the parts of the logged router, with the publisher closed.
     pub fn into_parts(
         self,
     ) -> (
@@ -116,14 +119,15 @@ impl<T> LoggedRouter<T> {
         (options, entries, router, consumers, published.close())
     }
 
-    /// What was published so far.
+    /// Returns a notice of the configurations that were published so far.
     pub fn notice(&self) -> Notice
         ensures { result ≡ record { board = self.now.options.origin; list = installs self.now.options.opening self.now.entries } }
     {
         self.router_log.published.notice()
     }
 
-    /// Whether the history has as many entries as it may have. One that is not kept may have as many as there are.
+    /// Returns whether the history has as many entries as the desk has room for. Always false for a
+    /// live desk.
     pub(crate) fn is_full(&self) -> bool
         ensures { IsTrue result ↔ IsFull self.now.options.room (length self.now.entries) }
     {
@@ -134,7 +138,7 @@ impl<T> LoggedRouter<T> {
     }
 }
 
-/// Room for a packet in the reply, in the history and in a seat's list.
+/// Room for three copies of a packet: in the reply, in the history and in a seat's list.
 #[derive(Drop)]
 pub(crate) struct Rooms {
     told: Option<PacketRoom>,
@@ -153,7 +157,7 @@ fn room_for(alloc: Global, call: &Call) -> Result<Option<PacketRoom>, AllocError
 }
 
 impl Rooms {
-    /// For a packet.
+    /// Reserves room for a packet. Fails with out of memory.
     #[cold]
     #[inline(never)]
     fn new(alloc: Global) -> Result<Rooms, AllocError>
@@ -166,7 +170,7 @@ impl Rooms {
         })
     }
 
-    /// For a call that sends none.
+    /// Returns no room, for a call that sends no packet.
     #[inline(always)]
     fn none() -> Rooms {
         Rooms {
@@ -177,7 +181,8 @@ impl Rooms {
     }
 }
 
-/// What is kept of a reply, in the history and in a seat's list.
+/// Returns two copies of a reply: for the history and for a seat's list. Fails with out of memory
+/// only if the reply holds memory.
 #[inline(always)]
 pub(crate) fn copy_twice(
     alloc: Global,
@@ -192,8 +197,10 @@ pub(crate) fn copy_twice(
     Ok((reply.copy(alloc, entered)?, reply.copy(alloc, listed)?))
 }
 
-/// The configuration of a text is published and takes the place of the running one, or is refused. All memory is taken before either; to publish is the last that
-/// may be refused.
+/// Prepares the configuration of a text, publishes it and installs it, or refuses it.
+///
+/// All memory is reserved before it is published, and publishing is the last step that may fail. If
+/// this fails with out of memory, nothing has changed.
 #[inline(never)]
 fn swap<T, R: Wait>(
     rt: &R,
@@ -229,7 +236,8 @@ fn swap<T, R: Wait>(
     }
 }
 
-/// Answers one call, and publishes what it installs. Where memory is refused nothing has changed.
+/// Answers one call, and publishes the configuration if the call installs one. If this fails with
+/// out of memory, nothing has changed.
 #[inline(always)]
 fn answer<T: Handlers, R: Wait>(
     rt: &R,
@@ -252,7 +260,7 @@ fn answer<T: Handlers, R: Wait>(
     }
 }
 
-/// Enters a call with its reply where neither is kept. It takes no memory.
+/// Enters a call with its reply in a history and a list that are ghost state. Never allocates.
 #[inline(always)]
 pub(crate) fn note(
     entries: &mut Trail<Entry>,
@@ -281,7 +289,11 @@ pub(crate) fn note(
 }
 
 impl<T: Handlers> LoggedRouter<T> {
-    /// One call of the seat with this number, which is no poll, entered in the history and in the seat's list. All memory is taken before the router changes.
+    /// Makes one call, which is not a Poll, and enters it in the history and in the seat's list.
+    /// `number` is that of the seat.
+    ///
+    /// All memory is reserved before the router changes. Fails with out of memory, or with
+    /// `HistoryFull`.
     #[inline(always)]
     pub fn enter<R: Wait>(
         &mut self,
@@ -301,7 +313,7 @@ impl<T: Handlers> LoggedRouter<T> {
         ensures keeps { calls.new.keeps ≡ calls.old.keeps }
         ensures full { (result ≡ Err DeskFault.HistoryFull) ↔ IsFull self.old.options.room (length self.old.entries) }
     {
-        // What the type keeps is known where one of its fields is named.
+        // proof: naming a field brings the type's invariant into scope.
         let _ = &self.router_log;
         if self.is_full() {
             return Err(DeskFault::HistoryFull);
@@ -309,7 +321,10 @@ impl<T: Handlers> LoggedRouter<T> {
         self.enter_any(rt, alloc, number, calls, call)
     }
 
-    /// A Round, as `enter` makes it, and how many packets its tasks gave or pulled. It takes no memory but for its places in both lists, where they are kept.
+    /// Makes a Round, as `enter` does. Returns the number of packets that the tasks emitted or
+    /// pulled.
+    ///
+    /// Allocates only for its entries in both lists, if they are stored.
     pub fn enter_round(
         &mut self,
         number: usize,
@@ -324,7 +339,7 @@ impl<T: Handlers> LoggedRouter<T> {
         ensures keeps { calls.new.keeps ≡ calls.old.keeps }
         ensures full { (result ≡ Err DeskFault.HistoryFull) ↔ IsFull self.old.options.room (length self.old.entries) }
     {
-        // What the type keeps is known where one of its fields is named.
+        // proof: naming a field brings the type's invariant into scope.
         let _ = &self.router_log;
         if self.is_full() {
             return Err(DeskFault::HistoryFull);
@@ -349,7 +364,7 @@ impl<T: Handlers> LoggedRouter<T> {
         Ok(worked)
     }
 
-    /// A call as `enter` makes it, which may send a packet and may take memory.
+    /// Makes a call, as `enter` does, that may send a packet and may allocate.
     #[inline(always)]
     fn enter_any<R: Wait>(
         &mut self,
@@ -381,7 +396,8 @@ impl<T: Handlers> LoggedRouter<T> {
         self.enter_with_history(rt, alloc, number, calls, call, Rooms::none())
     }
 
-    /// A call, with copies of it and of its reply in both lists. The rooms are for a packet that it sends.
+    /// Makes a call, and stores copies of it and of its reply in both lists. `rooms` is for a
+    /// packet that it sends.
     #[inline(always)]
     fn enter_with_history<R: Wait>(
         &mut self,
@@ -425,7 +441,8 @@ impl<T: Handlers> LoggedRouter<T> {
         ) else {
             return Err(DeskFault::NoMemory);
         };
-        // A reply that holds memory comes of a call that changed nothing.
+        // Only the reply of a call that changed nothing holds memory, so this failure leaves
+        // nothing changed.
         let Ok((entered, told)) = copy_twice(alloc, &reply, entered, beside) else {
             return Err(DeskFault::NoMemory);
         };
@@ -438,7 +455,8 @@ impl<T: Handlers> LoggedRouter<T> {
         Ok(reply)
     }
 
-    /// A call of which nothing is kept. It takes no memory but what its step takes and its reply holds.
+    /// Makes a call without storing it. Allocates only what its step needs and what its reply
+    /// holds.
     #[inline(always)]
     fn enter_without_history<R: Wait>(
         &mut self,

@@ -26,16 +26,16 @@ use std::sync::Wait;
 use std::sync::atomic::AtomicU32;
 use thiserror::Error;
 
-/// The most seats of a desk.
+/// The maximum number of seats of a desk.
 const MOST_SEATS: usize = 256;
 
-/// The most inlets of a desk.
+/// The maximum number of inlets of a desk.
 const MOST_INLETS: usize = 16;
 
-/// The most views that a desk is opened with.
+/// The maximum number of views that a desk is opened with.
 const MOST_VIEWS: usize = 16;
 
-/// Why a desk was not opened.
+/// The fault for which a desk was not opened.
 #[derive(Debug, Drop, Error)]
 pub enum OpenFault {
     #[error("a desk has 1 to 256 seats")]
@@ -46,17 +46,17 @@ pub enum OpenFault {
     InletCount,
     #[error("a desk is opened with at most 16 views")]
     ViewCount,
-    /// What is wrong with the configuration.
+    /// The first fault of the configuration.
     #[error(transparent)]
     Config(ConfigFault),
     #[error("out of memory")]
     NoMemory,
-    /// A view more could not be counted.
+    /// The desk cannot count one more view.
     #[error("no view")]
     NoView,
 }
 
-/// What was handed in, and why no desk was opened.
+/// A desk that was not opened: what was handed in, and the fault.
 #[derive(Drop)]
 pub struct OpenRefused<T> {
     pub table: T,
@@ -64,7 +64,8 @@ pub struct OpenRefused<T> {
     pub fault: OpenFault,
 }
 
-/// How many of each a desk is to have, beside its inlets. Without a `room` its history has no bound, and is not kept.
+/// The sizes of a desk, except for its inlets. Without a `room` its history has no bound and is not
+/// stored.
 #[derive(Clone, Copy)]
 struct Sizes {
     room: Option<usize>,
@@ -72,7 +73,7 @@ struct Sizes {
     views: usize,
 }
 
-/// All that takes memory.
+/// All parts of a desk that need memory.
 #[derive(Drop)]
 struct Parts<T> {
     router_log: Box<RouterLog>,
@@ -83,14 +84,15 @@ struct Parts<T> {
     views: Vec<View>,
 }
 
-/// What a desk is put together of, where nothing can fail any more.
+/// What a desk is built from, once nothing can fail any more.
 struct Opening<T, S: Wait + Drop> {
     prepared: Prepared,
     install_signal: Option<InstallSignal<S>>,
     parts: Parts<T>,
 }
 
-/// A ledger without an entry, with room for so many feeds. It keeps its entries where there is a bound of them.
+/// Returns a router log without entries, with room for this many feeds. It stores its entries if
+/// their number has a bound. Fails with out of memory.
 fn empty_ledger(
     alloc: Global,
     options: DeskOptions,
@@ -109,7 +111,7 @@ fn empty_ledger(
     Ok(Box::new(alloc, router_log)?)
 }
 
-/// Takes all memory that a desk of these terms needs.
+/// Allocates all memory that a desk of these sizes needs. Fails with out of memory.
 fn make_parts<T, R: Wait>(
     rt: &R,
     alloc: Global,
@@ -128,7 +130,7 @@ fn make_parts<T, R: Wait>(
     ensures consumers { IfOk result (λ p. (p.router_log.value.consumers.items ≡ []) × (inlets ≤ vec_capacity p.router_log.value.consumers)) }
 {
     let install = Install::of_prepared(alloc, text, prepared)?;
-    // Where there are no views nothing that is published is kept.
+    // Without views, published configurations are not stored.
     let published = Publisher::open(rt, alloc, install, sizes.views > 0)?;
     let inside = DeskOptions::of(alloc, text, sizes.room, sizes.seats, published.origin())?;
     let beside = DeskOptions::of(alloc, text, sizes.room, sizes.seats, published.origin())?;
@@ -146,7 +148,7 @@ fn make_parts<T, R: Wait>(
     })
 }
 
-/// Opens the inlets. It takes no memory.
+/// Opens the inlets. Never allocates.
 fn open_all(inlets: Vec<Inlet>, consumers: &mut Vec<PacketConsumer>)
     requires { (consumers.old.items ≡ []) × (length inlets.items ≤ vec_capacity consumers.old) }
     ensures names { map name_of consumers.new.items ≡ inlets.items }
@@ -157,7 +159,7 @@ fn open_all(inlets: Vec<Inlet>, consumers: &mut Vec<PacketConsumer>)
     }
 }
 
-/// Makes the seats.
+/// Creates the seats, numbered from 0. Never allocates.
 fn make_seats<T>(
     alloc: Global,
     queue: &Queue<T>,
@@ -187,7 +189,8 @@ fn make_seats<T>(
     }
 }
 
-/// What tells views of swaps, where there are views.
+/// Opens the install signal for this many views, or returns `None` if there are none. Fails with
+/// out of memory.
 fn signal_for<'a, R: Wait>(
     rt: &'a R,
     alloc: Global,
@@ -203,7 +206,7 @@ fn signal_for<'a, R: Wait>(
     }
 }
 
-/// A view, which hears the bell. It takes memory for what it hears by.
+/// Returns a view that listens to the install signal. Fails with out of memory, or with `NoView`.
 fn view_of<S: Wait, R: Wait + Drop>(
     rt: &S,
     published: &Publisher<Install>,
@@ -224,7 +227,7 @@ fn view_of<S: Wait, R: Wait + Drop>(
     Ok(View { shown })
 }
 
-/// Makes the views.
+/// Creates the views.
 fn make_views<S: Wait, R: Wait + Drop>(
     rt: &S,
     published: &Publisher<Install>,
@@ -245,7 +248,7 @@ fn make_views<S: Wait, R: Wait + Drop>(
     Ok(())
 }
 
-/// Why a desk is not opened where its configuration is refused for this fault. Want of memory is told as such.
+/// Converts the fault of a configuration into that of an opening. Out of memory becomes `NoMemory`.
 fn fault_of(fault: ConfigFault) -> OpenFault
     ensures memory { fault.kind ≡ FaultKind.NoMemory → result ≡ OpenFault.NoMemory }
     ensures config { (fault.kind ≡ FaultKind.NoMemory → ⊥) → result ≡ OpenFault.Config fault }
@@ -256,7 +259,8 @@ fn fault_of(fault: ConfigFault) -> OpenFault
     }
 }
 
-/// Why no desk has this many seats with these inlets and so many views, if none has.
+/// Returns the first fault in the numbers of seats, inlets and views, or `None` if they are
+/// allowed.
 fn size_fault(seats: usize, inlets: &[Inlet], views: usize) -> Option<OpenFault>
     ensures fits { IfNone result (AreFit seats inlets.now × (views ≤ 16)) }
     ensures fault { IfSome result (λ fault. (text : List ℕ) → IsViewFault seats inlets.now views text fault) }
@@ -276,7 +280,7 @@ fn size_fault(seats: usize, inlets: &[Inlet], views: usize) -> Option<OpenFault>
     None
 }
 
-/// Makes all that a desk of these sizes is put together of, or tells why none is opened.
+/// Creates everything that a desk of these sizes is built from, or returns the first fault.
 fn make_opening<'a, T: Drop, R: Wait>(
     rt: &'a R,
     alloc: Global,
@@ -324,7 +328,7 @@ fn make_opening<'a, T: Drop, R: Wait>(
     })
 }
 
-/// What was handed in, and why no desk was opened.
+/// Returns a refused opening with what was handed in.
 fn refused<T>(table: T, inlets: Vec<Inlet>, fault: OpenFault) -> OpenRefused<T>
     ensures { result ≡ record { table = table; inlets = inlets; fault = fault } }
 {
@@ -336,9 +340,15 @@ fn refused<T>(table: T, inlets: Vec<Inlet>, fault: OpenFault) -> OpenRefused<T>
 }
 
 impl<'a, T: Drop, R: Wait> Desk<T, &'a R> {
-    /// Opens a desk with 1 to 256 seats and at most 16 inlets, no two of them of one device, for a history of at most `room` entries. A refusal hands the table and
-    /// the inlets back: for the number of seats, else for a device that is there twice, else for the number of inlets, else for the configuration, else because
-    /// memory runs out.
+    /// Opens a desk for a history of at most `room` entries. It has 1 to 256 seats and at most 16
+    /// inlets, each of another device.
+    ///
+    /// If it fails, the table and the inlets are returned. The fault is the first one in this
+    /// order:
+    /// 1. The number of seats is not allowed.
+    /// 2. Two inlets are of one device.
+    /// 3. The number of inlets is not allowed.
+    /// 4. The configuration has a fault, or the opening is out of memory.
     pub fn open(
         rt: &'a R,
         alloc: Global,
@@ -361,8 +371,11 @@ impl<'a, T: Drop, R: Wait> Desk<T, &'a R> {
         }
     }
 
-    /// Opens a desk as `open` does, with up to 16 views of it, each of which shows the opening configuration. It is refused for too many views after the number of
-    /// inlets is tested, and last of all where a view more could not be counted.
+    /// Opens a desk as `open` does, with up to 16 views, each of which shows the opening
+    /// configuration.
+    ///
+    /// The number of views is tested after that of the inlets. The last fault is that the desk
+    /// cannot count one more view.
     pub fn open_with_views(
         rt: &'a R,
         alloc: Global,
@@ -389,9 +402,11 @@ impl<'a, T: Drop, R: Wait> Desk<T, &'a R> {
         Desk::open_of(rt, alloc, table, text, inlets, sizes)
     }
 
-    /// Opens a live desk, which keeps no book: its history has no bound, and no call and no poll takes memory that stays, but that views keep what each swap
-    /// published. There is one history as of a desk with a book, and all that is promised of it holds, but it is not kept, so that no seat lends its calls and the
-    /// book of the close lends no entries. It is refused as `open_with_views` is.
+    /// Opens a live desk, which keeps no book: its history has no bound and is ghost state.
+    ///
+    /// No call and no poll allocates memory that stays, except that each swap stores what it
+    /// publishes if there are views. All that is promised of a history holds for this one too.
+    /// Since it is not stored, a seat and a book return no calls. Fails as `open_with_views` does.
     pub fn open_live(
         rt: &'a R,
         alloc: Global,
@@ -440,7 +455,7 @@ impl<'a, T: Drop, R: Wait> Desk<T, &'a R> {
         }
     }
 
-    /// Puts a desk together, with its seats and its views. It takes no memory.
+    /// Builds a desk, with its seats and its views. Never allocates.
     fn put_together(
         rt: &'a R,
         alloc: Global,

@@ -7,18 +7,19 @@ use click_router::Install;
 use click_views::Origin;
 use std::alloc::{AllocError, Global};
 
-/// The opening text, the number of entries that the history may have, and the number of seats.
+/// The options of a desk. They are the opening text, the maximum number of entries, the number of
+/// seats, and the identity of the list of its published configurations.
 #[derive(Drop)]
 pub struct DeskOptions {
     pub opening: Sequence<u8>,
-    /// `None`: the history is not kept, and may have as many entries as there are.
+    /// The maximum number of entries of the history. `None`: it has no bound and is not stored.
     pub room: Option<usize>,
     pub seats: usize,
     pub origin: Origin<Install>,
 }
 
 impl DeskOptions {
-    /// The terms with a copy of this text.
+    /// Returns the options with a copy of this text. Fails with out of memory.
     pub fn of(
         alloc: Global,
         text: &[u8],

@@ -1,4 +1,4 @@
-//! Polls: packets that are drawn from a feed enter the router.
+//! Polls: packets that are drawn from a feed and enter the router.
 
 ghost use Rattle.std.specs.Prelude.{◌≡◌, ◌≤◌, ◌++◌, ◌∷◌, ◌↔◌, [], length, map, true, false, is_some, IfOk, IfErr, OnErr, Err, List, vec_len, vec_capacity};
 ghost use Rattle.click_packet.specs.Packet.{Packet};
@@ -19,7 +19,7 @@ use click_router::{Call, Handlers, Reply, Router, StoredReply};
 use click_trail::Trail;
 use std::alloc::{AllocError, Global};
 
-/// Rooms for this many packets.
+/// Reserves room for `count` packets. Fails with out of memory.
 fn packet_rooms(alloc: Global, count: usize) -> Result<Vec<PacketRoom>, AllocError>
     ensures { IfOk result (λ rooms. vec_len rooms ≡ count) }
 {
@@ -30,7 +30,7 @@ fn packet_rooms(alloc: Global, count: usize) -> Result<Vec<PacketRoom>, AllocErr
     Ok(rooms)
 }
 
-/// All memory that a poll may need: the device's name and the packets.
+/// The memory for one copy of a poll: for the device's name and for the packets.
 #[derive(Drop)]
 struct PollRoom {
     name: Sequence<u8>,
@@ -48,7 +48,7 @@ impl PollRoom {
     }
 }
 
-/// The same twice, for the history and for the seat's list.
+/// The memory for two copies of a poll: one for the history, and one for the seat's list.
 struct PollRooms {
     entered: PollRoom,
     listed: PollRoom,
@@ -69,7 +69,7 @@ impl PollRooms {
     }
 }
 
-/// Copies packets into the rooms for them. It takes no memory.
+/// Copies packets into the room that is reserved for them. Never allocates.
 fn copy_all(
     packets: &[StoredPacket],
     mut rooms: Vec<PacketRoom>,
@@ -87,7 +87,8 @@ fn copy_all(
     copies
 }
 
-/// How many packets a poll is to draw: as many as are seen to be there, up to `most`, and none where the configuration has no such source.
+/// Returns how many packets a poll draws. These are the packets seen in the feed, up to `most`, or
+/// none if the configuration has no source of the device.
 fn poll_size<T>(
     router: &Router<T>,
     consumers: &mut Vec<PacketConsumer>,
@@ -106,7 +107,7 @@ fn poll_size<T>(
 }
 
 impl PollRoom {
-    /// Draws up to `most` packets of the device, and gives the poll of what was drawn. It takes no memory.
+    /// Draws up to `most` packets of the device, and returns the Poll with them. Never allocates.
     fn draw(self, consumers: &mut [PacketConsumer], device: &[u8], most: usize) -> Call
         requires apart { have_distinct_devices (map name_of consumers.old) ≡ true }
         requires room { (self.name ≡ device.now) × (self.drawn.items ≡ []) × (most ≤ vec_capacity self.drawn) }
@@ -126,7 +127,8 @@ impl PollRoom {
 }
 
 impl PollRooms {
-    /// Draws up to `most` packets of the device. Gives the poll of what was drawn twice. It takes no memory.
+    /// Draws up to `most` packets of the device, and returns two copies of the Poll with them.
+    /// Never allocates.
     fn draw(self, consumers: &mut [PacketConsumer], device: &[u8], most: usize) -> (Call, Call)
         requires apart { have_distinct_devices (map name_of consumers.old) ≡ true }
         requires names { (self.entered.name ≡ device.now) × (self.listed.name ≡ device.now) }
@@ -160,7 +162,10 @@ impl PollRooms {
 }
 
 impl<T: Handlers> LoggedRouter<T> {
-    /// One poll of a device, by the seat with this number, entered in the history and in the seat's list. All memory is taken before a packet is drawn.
+    /// Makes one poll of a device, and enters it in the history and in the seat's list. `number` is
+    /// that of the seat.
+    ///
+    /// All memory is reserved before a packet is drawn. Fails as `enter` does.
     pub fn enter_poll(
         &mut self,
         alloc: Global,
@@ -188,7 +193,7 @@ impl<T: Handlers> LoggedRouter<T> {
         }
     }
 
-    /// A poll, with copies of it and of its reply in both lists.
+    /// Makes a poll, and stores copies of it and of its reply in both lists.
     fn enter_poll_with_history(
         &mut self,
         alloc: Global,
@@ -215,7 +220,7 @@ impl<T: Handlers> LoggedRouter<T> {
             return Err(DeskFault::NoMemory);
         };
         let (call, listed) = rooms.draw(router_log.consumers.as_mut_slice(), device, count);
-        // From here on nothing fails: a poll and its reply take no memory.
+        // Nothing fails from here on: a poll and its reply allocate nothing.
         let Ok(reply) = self.router.record(alloc, &call, None) else {
             unreachable!()
         };
@@ -231,7 +236,7 @@ impl<T: Handlers> LoggedRouter<T> {
         Ok(reply)
     }
 
-    /// A poll of which nothing is kept: the packets that it drew are let go once they entered.
+    /// Makes a poll without storing it. The packets that it drew are freed once they have entered.
     fn enter_poll_without_history(
         &mut self,
         alloc: Global,
@@ -255,7 +260,7 @@ impl<T: Handlers> LoggedRouter<T> {
             return Err(DeskFault::NoMemory);
         };
         let call = room.draw(router_log.consumers.as_mut_slice(), device, seen);
-        // From here on nothing fails.
+        // Nothing fails from here on.
         let Ok(reply) = self.router.record(alloc, &call, None) else {
             unreachable!()
         };

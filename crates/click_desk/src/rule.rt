@@ -1,11 +1,11 @@
-//! The queue of one place through which the booked router passes.
+//! The single-slot queue that holds the logged router while no call is in progress, and its rule.
 
 use crate::logged_router::LoggedRouter;
 use crate::view::View;
 use crossbeam_queue::protocol::{Join, Lesson, Outcome, Protocol, Split};
 use crossbeam_queue::{Pass, RuledArrayQueue};
 
-/// The rule of the queue.
+/// The rule of the queue: an invariant of its content and of what all passes know.
 pub struct OnePlace;
 
 impl<T> Protocol<LoggedRouter<T>, View> for OnePlace {
@@ -17,7 +17,7 @@ impl<T> Protocol<LoggedRouter<T>, View> for OnePlace {
     ghost first = { first_view };
 }
 
-/// A take.
+/// The step that takes the logged router.
 pub struct Take;
 
 impl<T> Outcome<LoggedRouter<T>, View> for Take {
@@ -26,7 +26,7 @@ impl<T> Outcome<LoggedRouter<T>, View> for Take {
     ghost then = { Takes };
 }
 
-/// A give, which finds the queue empty.
+/// The step that gives the logged router back. It finds the queue empty.
 pub struct Give;
 
 impl<T> Outcome<LoggedRouter<T>, View> for Give {
@@ -41,7 +41,7 @@ impl<T> Lesson<LoggedRouter<T>, View> for Give {
     ghost fact = { λ v items. v.holds ≡ true → items ≡ [] };
 }
 
-/// A further seat.
+/// The split of a pass that makes seats: into itself and the pass of the next seat.
 pub struct NextSeat;
 
 impl Split<View> for NextSeat {
@@ -52,7 +52,7 @@ impl Split<View> for NextSeat {
     ghost right = { next_seat };
 }
 
-/// A pass of no seat.
+/// The split of a pass into itself and a pass without a seat.
 pub struct Agent;
 
 impl Split<View> for Agent {
@@ -63,7 +63,8 @@ impl Split<View> for Agent {
     ghost right = { λ v. agent v.options };
 }
 
-/// A seat and who holds the booked router look at the history together, and part again.
+/// The meeting of a seat's pass with the pass that holds the logged router. They are joined,
+/// compare what the seat knows with the history, and are split again.
 pub struct Meeting;
 
 impl Join<View> for Meeting {

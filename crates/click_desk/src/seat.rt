@@ -1,4 +1,4 @@
-//! A seat at a desk.
+//! Seats of a desk.
 
 ghost use Rattle.std.specs.Prelude.{◌≡◌, [], true, false, is_some};
 ghost use Rattle.click_desk.specs.SeatStates.{IsSeat};
@@ -10,7 +10,7 @@ use click_router::{Call, StoredReply};
 use click_trail::Trail;
 use std::marker::Model;
 
-/// Who makes calls at a desk, from any thread.
+/// The capability to make calls at a desk, from any thread.
 #[derive(Drop)]
 pub struct Seat<T> {
     pub(crate) pass: DeskPass<T>,
@@ -39,7 +39,7 @@ impl<T> Model for Seat<T> {
 }
 
 impl<T> Seat<T> {
-    /// Its number at the desk.
+    /// Returns the number of the seat at its desk.
     pub fn number(&self) -> usize
         ensures number { result ≡ self.now.number }
         ensures sound { IsSeat self.now }
@@ -47,8 +47,11 @@ impl<T> Seat<T> {
         self.number
     }
 
-    /// What it was told in its latest call, or when the desk was opened: which configurations were installed so far. A view that learns it shows the last of these
-    /// or a later one. It takes no memory.
+    /// Returns the notice of the seat's latest call, or of the opening of the desk if it has made
+    /// no call.
+    ///
+    /// It covers the configurations that were installed so far. A view that learns it shows the
+    /// last of them or a later one. Never allocates.
     pub fn notice(&self) -> &Notice
         ensures told { result.now ≡ record { board = self.now.desk.options.origin; list = installs self.now.desk.options.opening self.now.seen } }
         ensures sound { IsSeat self.now }
@@ -56,7 +59,8 @@ impl<T> Seat<T> {
         &self.notice
     }
 
-    /// The calls that it made, each with its reply, where the desk keeps a book; else none.
+    /// Returns the seat's calls, each with its reply, if the desk keeps a book. Otherwise returns
+    /// none.
     pub fn calls(&self) -> &[(Call, StoredReply)]
         ensures calls { is_some self.now.desk.options.room ≡ true → result.now ≡ self.now.calls }
         ensures none { is_some self.now.desk.options.room ≡ false → result.now ≡ [] }

@@ -1,4 +1,4 @@
-//! Views of a desk: checks of handlers that wait for nobody.
+//! Views of a desk: handler checks that never block.
 
 ghost use Rattle.std.specs.Prelude.{◌≡◌, ℕ, List, map, IfOk};
 ghost use Rattle.click_router.specs.One.{Listing, IsListing, check};
@@ -8,11 +8,15 @@ use click_router::{Check, Direction, Install};
 use std::alloc::{AllocError, Global};
 use std::marker::Model;
 
-/// How far the configurations of a desk go: what a seat was told in its latest event. It takes no memory.
+/// A token that proves which configurations of a desk were installed up to a seat's latest call. It
+/// allocates nothing.
 pub type Notice = click_views::Notice<Install>;
 
-/// Who sees the configurations of a desk, in any thread. It answers for the last of those that it knows of: first for the one that the desk was opened with, and
-/// once it was told of a swap, for that one or a later one, and never again for an older one. A bell tells it of swaps too; of these nothing is promised.
+/// A handle that checks handlers against the installed configurations of a desk, from any thread.
+///
+/// It answers for the last configuration that it knows of. That is the opening one at first. After
+/// it learns a notice, it is the last one of the notice or a later one, and never again an older
+/// one. An install signal can also move it on, but carries no guarantee.
 #[derive(Drop)]
 pub struct View {
     pub(crate) shown: click_views::View<Install>,
@@ -28,7 +32,8 @@ impl Model for View {
 }
 
 impl View {
-    /// Shows all that the notice tells of, which has to be of the same desk. It takes no memory, waits for nobody and cannot be refused.
+    /// Moves on to the configurations that the notice covers, if it does not know them yet. The
+    /// notice must be of the same desk. Never allocates, never blocks and never fails.
     pub fn learn(&mut self, notice: &Notice)
         requires { notice.now.board ≡ self.old.board }
         ensures board { self.new.board ≡ self.old.board }
@@ -38,7 +43,8 @@ impl View {
         self.shown.learn(notice);
     }
 
-    /// Whether a handler can be read, in the last configuration that the view knows of. It takes no memory and waits for nobody.
+    /// Returns whether a handler can be read in the last configuration that the view knows of.
+    /// Never allocates and never blocks.
     pub fn check_read(&mut self, name: &[u8]) -> Check
         ensures board { self.new.board ≡ self.old.board }
         ensures later { BeginsWith self.new.list self.old.list }
@@ -48,7 +54,8 @@ impl View {
         self.shown.install().check(Direction::Read, name)
     }
 
-    /// Whether a handler can be written, in the last configuration that the view knows of. It takes no memory and waits for nobody.
+    /// Returns whether a handler can be written in the last configuration that the view knows of.
+    /// Never allocates and never blocks.
     pub fn check_write(&mut self, name: &[u8]) -> Check
         ensures board { self.new.board ≡ self.old.board }
         ensures later { BeginsWith self.new.list self.old.list }
@@ -58,7 +65,8 @@ impl View {
         self.shown.install().check(Direction::Write, name)
     }
 
-    /// The names of the elements of the last configuration that the view knows of, in flat order. `Err`: memory ran out.
+    /// Returns the names of the elements of the last configuration that the view knows of, in flat
+    /// order. Fails with out of memory. Never blocks.
     pub fn names(&mut self, alloc: Global) -> Result<Vec<Vec<u8>>, AllocError>
         ensures board { self.new.board ≡ self.old.board }
         ensures later { BeginsWith self.new.list self.old.list }

@@ -1,4 +1,4 @@
--- Figures in boxes that were placed.
+-- Lemmas about figures in boxes that were placed.
 use Rattle.std.proofs.Common.{◌≡◌, ℕ, ◌+◌, ◌*◌, ◌<◌, ◌≤◌, List, length, get_or, ap, ◌∙◌, sym, subst, arith, Contains, All}
 use Rattle.std.proofs.lemmas.List.{get_or_default}
 use Rattle.std.proofs.lemmas.Option.{get_or_from_slice_get}
@@ -17,7 +17,7 @@ use Rattle.click_draw.specs.declared.drawing.Rectangle.{Rectangle}
 use Rattle.click_draw.specs.declared.drawing.Mark.{Mark}
 use Rattle.click_draw.specs.declared.drawing.Figure.{Figure}
 
--- a figure's frame is the box of its place
+-- the frame of a figure is the box with its index
 frame-box : (net : Net) (boxes : List Rectangle) (fs : List Figure) → EachAt (IsBoxed net boxes) fs → (k : ℕ) (d : Figure) → k < length fs → (r : Rectangle) →
     get_or boxes k r ≡ (get_or fs k d).frame
 frame-box net boxes fs h k d l r = get_or_from_slice_get boxes k (get_or fs k d).frame r (h k d l).frame
@@ -49,7 +49,7 @@ frames-inside net boxes fs width height h e a k d l =
     let r = (get_or fs k d).frame in
     subst (IsInside width height) (frame-box net boxes fs h k d l r) (a k r (omega (arith, l, e)))
 
--- a port stands within its box's width
+-- a port is within the width of its box
 offset-within : (w n p : ℕ) → 20 * n ≤ w → p < n → port_offset w n p ≤ w
 offset-within w n p h l = omega arith
 
@@ -91,7 +91,7 @@ all-joined net fs lawful h e k d l =
       input = λ x. let a = (h c.to x to).look.inputs.all in let b = has-end cs c Input i in omega (arith, a, b);
     }
 
--- the same of what the steps of a layout are given and give
+-- the figures that the steps of a layout return are those of the net
 pub drawn-figures : (net : Net) (b boxes : List Rectangle) (fs : List Figure) (w widths first : List ℕ) (count : ℕ) → b ≡ boxes → w ≡ widths →
     EachAt (IsBoxed net b) fs → length fs ≡ length net.shapes → length first ≡ length net.shapes → length widths ≡ length first + count →
     ((n : ℕ) → n < length first → get_or widths n 0 ≡ get_or first n 0) → ((n : ℕ) → n < length w → IsSized w boxes n) →

@@ -1,4 +1,4 @@
--- Nodes that are sorted are the same nodes.
+-- Sorting slots does not change which nodes there are.
 use Rattle.std.proofs.Common.{◌≡◌, ℕ, ◌<◌, List, length, get_or, ap, ◌∙◌, arith}
 use Rattle.std.specs.List.Sorted.{IsPermutation}
 use Rattle.std.proofs.lemmas.List.{get_or_default}

@@ -1,4 +1,4 @@
--- What a drawing shows of a net.
+-- A drawing of a net.
 use Rattle.std.specs.Prelude.{◌≡◌, ◌↔◌, ℕ, ◌+◌, ◌<◌, ◌≤◌, List, [], length, All, IsTrue, Some, slice_get, slice_index_or}
 use Rattle.click_classes.specs.declared.ports.Side.{Side}
 use Rattle.click_classes.specs.declared.ports.Side.TheVariants.{Input, Output}
@@ -16,25 +16,25 @@ use Rattle.click_draw.specs.declared.drawing.Look.{Look}
 use Rattle.click_draw.specs.declared.drawing.Figure.{Figure}
 use Rattle.click_draw.specs.declared.drawing.Line.{Line}
 
--- so it is with each of the list, by its place
+-- each item of the list has the property, given its index
 abbrev pub EachAt : {X : Type 0} → (ℕ → X → Type 0) → List X → Type 0
 EachAt {X} P xs = (k : ℕ) (d : X) → k < length xs → P k (slice_index_or xs k d)
 
 abbrev pub port_at : ℕ → Side → ℕ → Port
 port_at element side number = record { element = element; side = side; number = number }
 
--- the mark says what the port is, and stands at its place
+-- the mark has the kind of the port, and stands at its place
 pub record IsMark (net : Net) (element : ℕ) (side : Side) (port : ℕ) (m : Mark) : Type 0 where
   pub pull : IsTrue m.pull ↔ IsPull net.shapes net.connections (port_at element side port)
   pub agnostic : IsTrue m.agnostic ↔ IsAgnostic net.shapes (port_at element side port)
   pub at : m.at ≡ port_offset (element_width net element) (used net.connections element side) port
 
--- the marks of an element's side: one for each port
+-- the marks on one side of an element: one for each port
 pub record AreMarks (net : Net) (element : ℕ) (side : Side) (ms : List Mark) : Type 0 where
   pub all : length ms ≡ used net.connections element side
   pub each : EachAt (IsMark net element side) ms
 
--- what is seen of the net's element at that place
+-- the look of the element with an index
 pub record IsLook (net : Net) (element : ℕ) (l : Look) : Type 0 where
   pub number : l.number ≡ element
   pub name : l.name ≡ slice_index_or net.names element []
@@ -42,35 +42,35 @@ pub record IsLook (net : Net) (element : ℕ) (l : Look) : Type 0 where
   pub inputs : AreMarks net element Input l.inputs
   pub outputs : AreMarks net element Output l.outputs
 
--- the element in a box as large as it needs
+-- the element, in a box as large as it needs
 pub record IsFigure (net : Net) (element : ℕ) (f : Figure) : Type 0 where
   pub look : IsLook net element f.look
   pub width : f.frame.width ≡ element_width net element
   pub height : f.frame.height ≡ 46
 
--- two rectangles have a place in common
+-- two rectangles overlap
 abbrev pub Overlap : Rectangle → Rectangle → Type 0
 Overlap a b =
     (a.left < b.left + b.width) × (b.left < a.left + a.width) × (a.top < b.top + b.height) × (b.top < a.top + a.height)
 
--- no two figures have a place in common
+-- no two figures overlap
 abbrev pub AreApart : List Figure → Type 0
 AreApart fs = (m n : ℕ) (d : Figure) → m < n → n < length fs → Overlap (slice_index_or fs m d).frame (slice_index_or fs n d).frame → ⊥
 
--- a rectangle, or a point, lies in a picture so wide and high
+-- a rectangle, or a point, lies in a picture of this width and height
 abbrev pub IsInside : ℕ → ℕ → Rectangle → Type 0
 IsInside width height r = (r.left + r.width ≤ width) × (r.top + r.height ≤ height)
 
 abbrev pub IsPointInside : ℕ → ℕ → Point → Type 0
 IsPointInside width height p = (p.x ≤ width) × (p.y ≤ height)
 
--- so do the line's points
+-- all points of a line lie in it
 pub record IsLineInside (width height : ℕ) (l : Line) : Type 0 where
   pub from : IsPointInside width height l.from
   pub bends : All (IsPointInside width height) l.bends
   pub to : IsPointInside width height l.to
 
--- where the ports of a figure are: inputs at its upper side, outputs at its lower side
+-- the places of a figure's ports: inputs at its upper side, outputs at its lower side
 abbrev pub input_place : Figure → Mark → Point
 input_place f m = record { x = f.frame.left + m.at; y = f.frame.top }
 
@@ -90,7 +90,7 @@ pub record Joins (fs : List Figure) (c : Connection) (l : Line) : Type 0 where
   pub input_there : slice_get to.look.inputs c.in_port ≡ Some input
   pub ends : l.to ≡ input_place to input
 
--- the line of the net's connection at that place
+-- the line of the connection with an index
 pub record IsLine (fs : List Figure) (cs : List Connection) (k : ℕ) (l : Line) : Type 0 where
   pub number : l.number ≡ k
   pub joins : (c : Connection) → slice_get cs k ≡ Some c → Joins fs c l

@@ -1,4 +1,4 @@
--- A drawing as an SVG text.
+-- A drawing as SVG.
 use Rattle.std.specs.Prelude.{ℕ, ◌-◌, ◌/◌, ◌==◌, List, [], ◌∷◌, ◌++◌, flat_map, Bool, true, false, codes, decimal, if◌then◌else◌}
 use Rattle.click_base.specs.declared.class.Class.{Class}
 use Rattle.click_base.specs.declared.class.Class.TheVariants as class
@@ -12,7 +12,7 @@ use Rattle.click_draw.specs.declared.drawing.Line.{Line}
 use Rattle.click_draw.specs.declared.drawing.Frame.{Frame}
 use Rattle.click_draw.specs.declared.drawing.Drawing.{Drawing}
 
--- XML marks by `&`, `<`, `>` and the quotation mark
+-- `&`, `<`, `>` and the quotation mark have a meaning in XML
 abbrev pub escaped_byte : ℕ → List ℕ
 escaped_byte b =
     if b == 38 then codes "&amp;" else (if b == 60 then codes "&lt;" else (if b == 62 then codes "&gt;" else (if b == 34 then codes "&quot;" else b ∷ [])))
@@ -26,11 +26,11 @@ pair x between y = decimal x ++ between ++ decimal y
 unfoldable pub size : ℕ → ℕ → List ℕ
 size width height = codes " width=\"" ++ pair width (codes "\" height=\"") height ++ codes "\""
 
--- a group's places count from where the rectangle begins
+-- coordinates in a group count from the upper left corner of the rectangle
 unfoldable pub moved : Rectangle → List ℕ
 moved to = codes " transform=\"translate(" ++ pair to.left (codes ",") to.top ++ codes ")\">"
 
--- a compound's frame, with its name in its upper left corner
+-- the frame of a compound, with its name in the upper left corner
 unfoldable pub frame_svg : Frame → List ℕ
 frame_svg f =
     codes "<g class=\"frame\"" ++ moved f.around ++ codes "<rect rx=\"8\"" ++ size f.around.width f.around.height ++ codes "/><text x=\"8\" y=\"14\">" ++
@@ -39,7 +39,7 @@ frame_svg f =
 unfoldable pub next_point : Point → List ℕ
 next_point p = codes " " ++ pair p.x (codes ",") p.y
 
--- a connection's line, under its number
+-- the line of a connection, with its number
 unfoldable pub line_svg : Line → List ℕ
 line_svg l =
     codes "<polyline id=\"c" ++ decimal l.number ++ codes "\" points=\"" ++ pair l.from.x (codes ",") l.from.y ++ flat_map next_point l.bends ++
@@ -52,7 +52,7 @@ kind_name false = codes "push"
 unfoldable pub outline : List ℕ → ℕ → ℕ → List ℕ → List ℕ
 outline kind x y line = codes "<path class=\"" ++ kind ++ codes "\" d=\"M" ++ pair x (codes " ") y ++ line ++ codes "\"/>"
 
--- what is agnostic is outlined twice
+-- an agnostic port has two outlines
 abbrev pub rim : Bool → ℕ → ℕ → List ℕ → List ℕ
 rim true x y line = outline (codes "rim") x y line
 rim false x y line = []
@@ -61,7 +61,8 @@ rim false x y line = []
 unfoldable pub input_svg : Mark → List ℕ
 input_svg m = outline (kind_name m.pull) (m.at - 5) 0 (codes "h10l-5 7z") ++ rim m.agnostic (m.at - 9) 0 (codes "h18l-9 12z")
 
--- an output is a square at the lower side of a box so high, filled or hollow alike
+-- an output is a square at the lower side of a box of this height, filled if push and hollow if
+-- pull
 unfoldable pub output_svg : ℕ → Mark → List ℕ
 output_svg height m =
     outline (kind_name m.pull) (m.at - 4) (height - 7) (codes "h8v7h-8z") ++ rim m.agnostic (m.at - 7) (height - 10) (codes "h14v10h-14z")
@@ -77,12 +78,12 @@ stores class.Queue = true
 stores class.FrontDropQueue = true
 stores _ = false
 
--- what stores packets has ribs
+-- a class that stores packets has ribs
 abbrev pub ribs : Bool → ℕ → List ℕ
 ribs true width = all_ribs width
 ribs false width = []
 
--- the name and the class in the middle of a box so wide
+-- the name and the class, centered in a box of this width
 unfoldable pub texts : Look → ℕ → List ℕ
 texts l width =
     codes "<text y=\"21\" x=\"" ++ decimal (width / 2) ++ codes "\">" ++ escaped l.name ++ codes "</text><text class=\"class\" y=\"33\" x=\"" ++
@@ -92,7 +93,7 @@ unfoldable pub box_svg : Figure → List ℕ
 box_svg f =
     codes "<rect class=\"box\"" ++ size f.frame.width f.frame.height ++ codes "/>" ++ ribs (stores f.look.class) f.frame.width ++ texts f.look f.frame.width
 
--- an element, under its number: its box and the marks of its ports
+-- an element, with its number: its box and the marks of its ports
 unfoldable pub figure_svg : Figure → List ℕ
 figure_svg f =
     codes "<g id=\"e" ++ decimal f.look.number ++ codes "\"" ++ moved f.frame ++ box_svg f ++ flat_map input_svg f.look.inputs ++
@@ -102,7 +103,7 @@ unfoldable pub head : ℕ → ℕ → List ℕ
 head width height =
     codes "<svg xmlns=\"http://www.w3.org/2000/svg\"" ++ size width height ++ codes " viewBox=\"0 0 " ++ pair width (codes " ") height ++ codes "\">\n"
 
--- the whole text, of that style: what stands later is drawn over what stands before it
+-- the whole text, with this style; what comes later is drawn over what comes before it
 unfoldable pub svg_of : List ℕ → Drawing → List ℕ
 svg_of style d =
     head d.width d.height ++ style ++ flat_map frame_svg d.frames ++ flat_map line_svg d.lines ++ flat_map figure_svg d.figures ++ codes "</svg>\n"

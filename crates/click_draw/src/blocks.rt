@@ -1,14 +1,17 @@
-//! Room for what stands together: the elements of a compound, and the bends of a line.
+//! Blocks of nodes that are laid out together: the elements of a compound, or the bends of a line.
 
 use crate::measures::BESIDE;
 use crate::order::{Mean, add_to, mean_of};
 use crate::routes::Node;
 use std::alloc::{AllocError, Global};
 
-/// What a compound keeps free at its sides.
+/// The free width at each side of a compound.
 const ASIDE: u64 = 14;
 
-/// What is taken together to a block: an element, or the bends of a line; those of a compound within another; those of a compound; all.
+/// The level of a block: what its nodes have in common.
+///
+/// They are an element or the bends of a line (`Chain`), a compound within another one (`Inner`),
+/// an outermost compound (`Outer`), or everything (`All`).
 #[derive(Clone, Copy, Debug, PartialEq, Eq)]
 pub enum Level {
     Chain,
@@ -18,7 +21,7 @@ pub enum Level {
 }
 
 impl Node {
-    /// The name of the node's block: its first node.
+    /// Returns the name of the block that the node is in. It is the number of one of its nodes.
     pub fn name(&self, level: Level) -> usize {
         match level {
             Level::Inner if self.compound_path.inner < usize::MAX => self.compound_path.inner,
@@ -29,12 +32,12 @@ impl Node {
     }
 }
 
-/// The middle between two places.
+/// Returns the middle between two places, rounded down.
 pub fn midway(a: u64, b: u64) -> u64 {
     a / 2 + b / 2 + (a % 2).min(b % 2)
 }
 
-/// Nodes that stand together: their sides, and their rows from the first to the last; and the block of a higher level in which they are.
+/// A block: its sides, its first and last row, and its block of a higher level (`whole`).
 #[derive(Clone, Copy, Debug, PartialEq, Eq)]
 pub struct Block {
     pub left: u64,
@@ -45,12 +48,12 @@ pub struct Block {
 }
 
 impl Block {
-    /// How far its middle is from the left.
+    /// Returns the middle between its sides.
     fn middle(self) -> u64 {
         midway(self.left, self.right)
     }
 
-    /// The block in a mirror, where left is right.
+    /// Returns the mirror image of the block, in which left is right.
     fn mirrored(self) -> Block {
         Block {
             left: u64::MAX - self.right,
@@ -59,7 +62,7 @@ impl Block {
         }
     }
 
-    /// The block with the node in it.
+    /// Returns the block, extended to include the node with its left side at `left`.
     fn with(self, node: &Node, left: u64, aside: u64) -> Block {
         let right = left.saturating_add(node.width).saturating_add(aside);
         Block {
@@ -72,7 +75,7 @@ impl Block {
     }
 }
 
-/// The blocks, each under its name.
+/// Returns the blocks of a level, each at its name.
 pub fn blocks_of(
     alloc: Global,
     nodes: &[Node],
@@ -101,7 +104,7 @@ pub fn blocks_of(
     Ok(blocks)
 }
 
-/// Where each block stands in the mean.
+/// Returns the mean left side of the nodes of each block.
 fn means_of(
     alloc: Global,
     nodes: &[Node],
@@ -115,7 +118,7 @@ fn means_of(
     Ok(means)
 }
 
-/// Sets the nodes of each block to one another as they were, in the mean of where they stand.
+/// Restores the relative places of the nodes of each block, and keeps the block's mean place.
 pub fn align_blocks(
     alloc: Global,
     nodes: &[Node],
@@ -137,7 +140,8 @@ pub fn align_blocks(
     Ok(())
 }
 
-/// The names of the blocks, by the greater ones that they are in, and there by how far from the left their middles are.
+/// Returns the names of the blocks, sorted by the blocks that they are in and then by their
+/// middles.
 fn names_in_order(
     alloc: Global,
     blocks: &[Option<Block>],
@@ -152,14 +156,14 @@ fn names_in_order(
     Ok(names)
 }
 
-/// How far a row is taken, in the block of that name.
+/// How far a row is occupied from the left, within the block named `whole`.
 #[derive(Clone, Copy, Debug, PartialEq, Eq)]
 struct Taken {
     whole: usize,
     to: u64,
 }
 
-/// Moves the block to the right of all that is taken in its rows, and takes its own place.
+/// Moves the block to the right of all that is occupied in its rows, and occupies its own place.
 fn push_right(block: &mut Block, taken: &mut [Taken]) {
     let mut left = block.left;
     for row in block.first..=block.last {
@@ -181,7 +185,8 @@ fn push_right(block: &mut Block, taken: &mut [Taken]) {
     }
 }
 
-/// The blocks, each of which gives way to the right to those before it in this order that are in the same greater one.
+/// Returns the blocks after each was moved to the right of those before it in this order. Only
+/// blocks in the same block of the higher level give way to one another.
 fn pushed_right(
     alloc: Global,
     blocks: &[Option<Block>],
@@ -202,7 +207,8 @@ fn pushed_right(
     Ok(pushed)
 }
 
-/// Moves the blocks within each greater one so that no two have a place of a row in common; two that hinder one another give way alike.
+/// Moves the blocks within each block of the higher level apart, so that no two overlap in a row.
+/// Two blocks in each other's way move equally far.
 pub fn separate_blocks(
     alloc: Global,
     nodes: &[Node],
@@ -214,7 +220,7 @@ pub fn separate_blocks(
     let blocks = blocks_of(alloc, nodes, lefts, unit, whole)?;
     let mut names = names_in_order(alloc, blocks.as_slice())?;
     let right = pushed_right(alloc, blocks.as_slice(), names.as_slice(), rows)?;
-    // To give way to the left is to give way to the right in a mirror, in the other order.
+    // Moving left is moving right in the mirror image, in the opposite order.
     let mut mirrored = blocks.clone()?;
     for block in mirrored.iter_mut() {
         *block = block.map(Block::mirrored);

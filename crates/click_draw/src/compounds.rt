@@ -1,9 +1,10 @@
-//! The compounds that elements are in, by their flat names.
+//! The compounds that elements are in, found from their flat names.
 
 use click_ports::Net;
 use std::alloc::{AllocError, Global};
 
-/// The compound that an element is in, and the one within that, each by the first element in it; the greatest number where there is none.
+/// The outermost compound that an element is in, and the next one within it. Each is named by its
+/// first element; `usize::MAX` stands for none.
 #[derive(Clone, Copy, Debug, PartialEq, Eq)]
 pub struct CompoundPath {
     pub outer: usize,
@@ -11,7 +12,7 @@ pub struct CompoundPath {
 }
 
 impl CompoundPath {
-    /// In no compound.
+    /// Returns the path of an element that is in no compound.
     pub fn none() -> CompoundPath {
         CompoundPath {
             outer: usize::MAX,
@@ -19,7 +20,7 @@ impl CompoundPath {
         }
     }
 
-    /// What two compound paths have in common.
+    /// Returns the compounds that are in both paths.
     pub fn shared(self, other: CompoundPath) -> CompoundPath {
         let same = |a: usize, b: usize| if a == b { a } else { usize::MAX };
         CompoundPath {
@@ -29,12 +30,13 @@ impl CompoundPath {
     }
 }
 
-/// How many bytes two names have in common at their beginning.
+/// Returns the length of the common prefix of two names, in bytes.
 pub fn shared_len(a: &[u8], b: &[u8]) -> usize {
     a.iter().zip(b).take_while(|(x, y)| x == y).count()
 }
 
-/// How long a name is up to the first slash that is not in its first so many bytes, with the slash; 0 where there is none.
+/// Returns the length of the name up to and with its first slash at or after `from`. Returns 0 if
+/// there is no such slash.
 fn slash_behind(name: &[u8], from: usize) -> usize {
     let rest = name.get(from..).unwrap_or(&[]);
     match rest.iter().position(|byte| *byte == b'/') {
@@ -43,7 +45,7 @@ fn slash_behind(name: &[u8], from: usize) -> usize {
     }
 }
 
-/// How long a name is up to its first slash, and up to its second, each with the slash; 0 where there is none.
+/// Returns the lengths of the name up to and with its first and its second slash; 0 for none.
 fn depths(name: &[u8]) -> (usize, usize) {
     let first = slash_behind(name, 0);
     let second = if first == 0 {
@@ -54,7 +56,8 @@ fn depths(name: &[u8]) -> (usize, usize) {
     (first, second)
 }
 
-/// The compound paths of the elements. Those of one compound follow one another.
+/// Returns the compound paths of the elements. The elements of a compound follow one another in
+/// flat order.
 pub fn compound_paths_of(alloc: Global, net: &Net) -> Result<Vec<CompoundPath>, AllocError> {
     let mut compound_paths = Vec::new(alloc);
     let mut last = CompoundPath::none();

@@ -1,16 +1,16 @@
-//! What is drawn of a net: figures of the elements, lines of the connections, and frames of the compounds.
+//! A drawing of a net: figures for elements, lines for connections, and frames for compounds.
 
 use click_base::Class;
 use click_base::sequence::Sequence;
 
-/// A place in the picture, in its units from the left and from the top.
+/// A point of the picture, in pixels from the left and from the top.
 #[derive(Clone, Copy, Debug, PartialEq, Eq)]
 pub struct Point {
     pub x: u64,
     pub y: u64,
 }
 
-/// A rectangle with its sides along those of the picture, in its units.
+/// A rectangle whose sides are parallel to those of the picture, in pixels.
 #[derive(Clone, Copy, Debug, PartialEq, Eq)]
 pub struct Rectangle {
     pub left: u64,
@@ -19,7 +19,9 @@ pub struct Rectangle {
     pub height: u64,
 }
 
-/// How a port is marked: whether it is pull, else it is push; whether it is agnostic by its class; and how far it is from its box's left side.
+/// The mark of a port: its kind, and its distance from the left side of its box.
+///
+/// A port is pull or else push. It is agnostic if its class leaves it so.
 #[derive(Clone, Copy, Debug, PartialEq, Eq)]
 pub struct Mark {
     pub pull: bool,
@@ -27,7 +29,7 @@ pub struct Mark {
     pub at: u64,
 }
 
-/// What is seen of an element wherever it stands: its place in flat order, its flat name, its class, and its ports.
+/// The look of an element, whatever its place: index, flat name, class and the marks of its ports.
 #[derive(Drop)]
 pub struct Look {
     pub number: usize,
@@ -44,7 +46,8 @@ pub struct Figure {
     pub frame: Rectangle,
 }
 
-/// A connection's line, from its output port over the bends to its input port, and its place in the order of the connections.
+/// The line of a connection, from its output over its bends to its input. `number` is the index of
+/// the connection.
 #[derive(Drop)]
 pub struct Line {
     pub number: usize,
@@ -53,14 +56,17 @@ pub struct Line {
     pub to: Point,
 }
 
-/// The frame of a compound, under its flat name.
+/// The frame of a compound, with its flat name.
 #[derive(Drop)]
 pub struct Frame {
     pub name: Sequence<u8>,
     pub around: Rectangle,
 }
 
-/// A picture of so many units: the elements in flat order, the connections in their order, and the compounds, each before those within it.
+/// A drawing, with its size in pixels.
+///
+/// Elements are in flat order, connections in their order, and each compound before those within
+/// it.
 #[derive(Drop)]
 pub struct Drawing {
     pub width: u64,

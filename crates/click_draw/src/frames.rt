@@ -1,4 +1,4 @@
-//! The frames of the compounds.
+//! The frames of compounds.
 
 ghost use Rattle.std.specs.Prelude.{All, IfOk, OnOk};
 ghost use Rattle.click_draw.specs.Picture.{IsInside};
@@ -9,10 +9,10 @@ use crate::lines::Size;
 use click_base::sequence::Sequence;
 use std::alloc::{AllocError, Global};
 
-/// How far a frame is from what it is around.
+/// The distance between a frame and what is in it, in pixels.
 const AROUND: u64 = 6;
 
-/// What a frame has above that for its name.
+/// The additional distance at the top of a frame, for its name, in pixels.
 const TITLE: u64 = 14;
 
 /// The sides of a rectangle.
@@ -54,7 +54,7 @@ impl Sides {
         }
     }
 
-    /// Further out by what a frame keeps free.
+    /// Returns these sides, moved outwards to where the frame is.
     fn widened(self) -> Sides {
         Sides {
             left: self.left.saturating_sub(AROUND),
@@ -64,7 +64,7 @@ impl Sides {
         }
     }
 
-    /// The rectangle between them, as far as it is in the picture.
+    /// Returns the rectangle between these sides, cut off at the edges of the picture.
     fn rectangle(self, size: Size) -> Rectangle
         ensures { IsInside size.width size.height result }
     {
@@ -79,21 +79,22 @@ impl Sides {
     }
 }
 
-/// A compound whose elements are gone through: how long its name is, and what is around its elements so far.
+/// A compound that is being processed: the length of its name, and the sides around its elements up
+/// to now.
 #[derive(Clone, Copy, Debug, PartialEq, Eq)]
 struct Open {
     len: usize,
     around: Sides,
 }
 
-/// Puts what is around a part into the innermost open compound.
+/// Extends the innermost open compound to include these sides.
 fn widen(open: &mut [Open], around: Sides) {
     if let Some(last) = open.last_mut() {
         last.around = last.around.with(around);
     }
 }
 
-/// The frame of a compound, of whose elements one has that name.
+/// Returns the frame of a compound. `name` is the name of one of its elements.
 fn frame_of(alloc: Global, open: &Open, name: &[u8], size: Size) -> Result<Frame, AllocError>
     ensures { IfOk result (λ f. IsInside size.width size.height f.around) }
 {
@@ -104,7 +105,10 @@ fn frame_of(alloc: Global, open: &Open, name: &[u8], size: Size) -> Result<Frame
     })
 }
 
-/// Closes the open compounds, from the innermost, that are not in the first so many bytes of the name, and adds their frames.
+/// Closes the open compounds that the next name is not in, and adds their frames.
+///
+/// `name` is the previous name; `shared` is the length of its common prefix with the next one. The
+/// innermost compound is closed first.
 fn close(
     alloc: Global,
     frames: &mut Vec<Frame>,
@@ -130,7 +134,7 @@ fn close(
     Ok(())
 }
 
-/// Opens the compounds of the name that are not in its first so many bytes.
+/// Opens the compounds of the name that are not within its first `shared` bytes.
 fn enter(open: &mut Vec<Open>, name: &[u8], shared: usize) -> Result<(), AllocError> {
     for (at, byte) in name.iter().enumerate() {
         if *byte == b'/' && at >= shared {
@@ -143,7 +147,8 @@ fn enter(open: &mut Vec<Open>, name: &[u8], shared: usize) -> Result<(), AllocEr
     Ok(())
 }
 
-/// The frames of the compounds that the figures are in, in a picture of that size.
+/// Returns the frames of the compounds that the figures are in, cut off at the edges of the
+/// picture.
 pub fn frames_of(
     alloc: Global,
     figures: &[Figure],

@@ -1,4 +1,4 @@
-//! The drawing of a net.
+//! Lays out the drawing of a net.
 
 ghost use Rattle.std.specs.Prelude.{◌≡◌, ℕ, ◌+◌, ◌<◌, ◌≤◌, length, slice_index, All, IfOk, OnOk};
 ghost use Rattle.click_draw.specs.Measures.{element_width};
@@ -20,7 +20,7 @@ use click_base::sequence::Sequence;
 use click_ports::Net;
 use std::alloc::{AllocError, Global};
 
-/// How wide the boxes of the elements are.
+/// Returns the widths of the elements' boxes.
 fn widths_of(alloc: Global, net: &Net) -> Result<Vec<u64>, AllocError>
     ensures all { IfOk result (λ widths. length widths.items ≡ length net.now.shapes) }
     ensures each { IfOk result (λ widths. EachAt (λ e w. w ≡ element_width net.now e) widths.items) }
@@ -33,21 +33,23 @@ fn widths_of(alloc: Global, net: &Net) -> Result<Vec<u64>, AllocError>
     Ok(widths)
 }
 
-/// Where a node would stand: its row, and how far from the left.
+/// The preferred place of a node: its row, and its distance from the left.
 #[derive(Clone, Copy, Debug, PartialEq, Eq)]
 struct PreferredPlace {
     row: usize,
     left: u64,
 }
 
-/// Where the nodes would stand, the elements first, and which of them are the bends of each connection.
+/// The preferred places of the nodes, the elements first, and the bends of each connection.
 #[derive(Drop)]
 struct Plan {
     preferred_places: Vec<PreferredPlace>,
     routes: Vec<Route>,
 }
 
-/// A plan for the net, with boxes of those widths. It is for the eye: whatever it is, what is drawn by it is a drawing of the net.
+/// Plans the places of the net's nodes. The boxes of its elements have these widths.
+///
+/// The plan affects how the drawing looks, and nothing that is proved of it.
 fn plan_of(alloc: Global, net: &Net, widths: &[u64]) -> Result<Plan, AllocError> {
     let rows = rows_of(alloc, widths.len(), net.connections())?;
     let compound_paths = compound_paths_of(alloc, net)?;
@@ -75,7 +77,7 @@ fn plan_of(alloc: Global, net: &Net, widths: &[u64]) -> Result<Plan, AllocError>
     })
 }
 
-/// Adds the widths of so many bends.
+/// Appends the widths of `count` bends.
 fn with_bends(widths: &mut Vec<u64>, count: usize) -> Result<(), AllocError>
     requires few { count ≤ 65536 }
     requires small { All (λ w. w ≤ 32788) widths.old.items }
@@ -89,14 +91,14 @@ fn with_bends(widths: &mut Vec<u64>, count: usize) -> Result<(), AllocError>
     Ok(())
 }
 
-/// How many bends there are among so many nodes, of which those before them are elements.
+/// Returns the number of bends among the nodes, of which the first ones are the elements.
 fn bend_count(nodes: usize, elements: usize) -> usize
     ensures { result ≤ 65536 }
 {
     nodes.saturating_sub(elements).min(MOST_BENDS)
 }
 
-/// The nodes in the order in which they are placed.
+/// Returns the nodes in the order in which they are placed.
 fn slots_of(
     alloc: Global,
     count: usize,
@@ -118,7 +120,7 @@ fn slots_of(
     Ok(slots)
 }
 
-/// The element in its box, which is that of its place.
+/// Returns the figure of an element in its box.
 fn figure_of(
     alloc: Global,
     net: &Net,
@@ -135,7 +137,7 @@ fn figure_of(
     })
 }
 
-/// The elements in their boxes, which are the first of these.
+/// Returns the figures of the elements in their boxes, which are the first of `boxes`.
 fn figures_of(alloc: Global, net: &Net, boxes: &[Rectangle]) -> Result<Vec<Figure>, AllocError>
     requires { length net.now.shapes ≤ length boxes.now }
     ensures all { IfOk result (λ figures. length figures.items ≡ length net.now.shapes) }
@@ -148,18 +150,18 @@ fn figures_of(alloc: Global, net: &Net, boxes: &[Rectangle]) -> Result<Vec<Figur
     Ok(figures)
 }
 
-/// The picture of a net within the limits of a flat form.
+/// Returns the drawing of a net that has at most as many elements as a flat form can have.
 pub fn layout(alloc: Global, net: &Net) -> Result<Drawing, AllocError>
     requires elements { length net.now.shapes ≤ 4096 }
-    // Each element has its figure, in flat order, in a box as large as it needs.
+    // Each element has a figure, in flat order, in a box as large as it needs.
     ensures figures { IfOk result (λ d. length d.figures ≡ length net.now.shapes) }
     ensures each { IfOk result (λ d. EachAt (IsFigure net.now) d.figures) }
-    // No two boxes have a place in common.
+    // No two boxes overlap.
     ensures apart { IfOk result (λ d. AreApart d.figures) }
-    // Each connection has its line, in order, from its output to its input.
+    // Each connection has a line, in order, from its output to its input.
     ensures lines { IfOk result (λ d. length d.lines ≡ length net.now.connections) }
     ensures joined { IfOk result (λ d. EachAt (IsLine d.figures net.now.connections) d.lines) }
-    // All lies in the picture.
+    // All boxes, lines and frames lie in the picture.
     ensures inside { IfOk result (λ d. All (λ f. IsInside d.width d.height f.frame) d.figures) }
     ensures lines_inside { IfOk result (λ d. All (IsLineInside d.width d.height) d.lines) }
     ensures frames_inside { IfOk result (λ d. All (λ f. IsInside d.width d.height f.around) d.frames) }

@@ -1,4 +1,4 @@
-//! A configuration as a picture: boxes with ports, lines between them, and frames round compounds.
+//! Draws a configuration: boxes with ports, lines between them, and frames around compounds.
 #![tactic(auto)]
 
 mod blocks;

@@ -1,4 +1,4 @@
-//! The lines of the connections.
+//! The lines of connections.
 
 ghost use Rattle.std.specs.Prelude.{◌≡◌, ◌≤◌, ◌+◌, length, All, IfOk};
 ghost use Rattle.click_draw.specs.Picture.{EachAt, IsInside, IsLine, IsLineInside, IsPointInside, Joins, input_place, output_place};
@@ -10,10 +10,10 @@ use click_base::sequence::Sequence;
 use click_expand::Connection;
 use std::alloc::{AllocError, Global};
 
-/// How far beyond its row a line that goes up is led.
+/// The distance by which a line that goes up extends beyond its row, in pixels.
 const AROUND: u64 = 16;
 
-/// Where the input with that mark is.
+/// Returns the place of the input with that mark.
 fn input_place(figure: &Figure, mark: &Mark) -> Point
     requires { figure.now.frame.left + mark.now.at ≤ 68719476736 }
     ensures { result ≡ input_place figure.now mark.now }
@@ -24,7 +24,7 @@ fn input_place(figure: &Figure, mark: &Mark) -> Point
     }
 }
 
-/// Where the output with that mark is.
+/// Returns the place of the output with that mark.
 fn output_place(figure: &Figure, mark: &Mark) -> Point
     requires left { figure.now.frame.left + mark.now.at ≤ 68719476736 }
     requires top { figure.now.frame.top + figure.now.frame.height ≤ 68719476736 }
@@ -36,14 +36,14 @@ fn output_place(figure: &Figure, mark: &Mark) -> Point
     }
 }
 
-/// The size of the picture.
+/// The size of the picture, in pixels.
 #[derive(Clone, Copy, Debug, PartialEq, Eq)]
 pub struct Size {
     pub width: u64,
     pub height: u64,
 }
 
-/// Where a line passes the row of its bend: where it enters it, and where it leaves it.
+/// Returns the points where a line enters the row of a bend, and where it leaves it.
 fn passage(bend: &Rectangle, rises: bool, size: Size) -> (Point, Point)
     requires small { size.height ≤ 68719476736 }
     requires inside { IsInside size.width size.height bend.now }
@@ -67,7 +67,7 @@ fn passage(bend: &Rectangle, rises: bool, size: Size) -> (Point, Point)
     }
 }
 
-/// The points of bends, in the direction of the line.
+/// Returns the points of the bends, in the direction of the line.
 fn points_of(
     alloc: Global,
     bends: &[Rectangle],
@@ -87,7 +87,7 @@ fn points_of(
     Ok(points)
 }
 
-/// The boxes of a way's bends.
+/// Returns the boxes of a route's bends.
 fn bends_of<'a>(route: &Route, boxes: &'a [Rectangle], size: Size) -> &'a [Rectangle]
     requires { All (IsInside size.width size.height) boxes.now }
     ensures { All (IsInside size.width size.height) result.now }
@@ -96,7 +96,7 @@ fn bends_of<'a>(route: &Route, boxes: &'a [Rectangle], size: Size) -> &'a [Recta
     rest.get(..route.bends).unwrap_or(&[])
 }
 
-/// The line of a connection between two of the figures.
+/// Returns the line of a connection between two of the figures.
 fn line_of(
     number: usize,
     connection: &Connection,
@@ -124,7 +124,7 @@ fn line_of(
     }
 }
 
-/// The lines of the connections.
+/// Returns the lines of the connections.
 pub fn lines_of(
     alloc: Global,
     connections: &[Connection],

@@ -1,4 +1,4 @@
-//! What is seen of each element.
+//! The look of each element: its name, class and marks.
 
 ghost use Rattle.std.specs.Prelude.{◌≡◌, ◌<◌, ◌≤◌, length, IfOk};
 ghost use Rattle.click_ports.specs.Ports.{Has, used};
@@ -12,7 +12,7 @@ use click_classes::{Code, Side, code};
 use click_ports::Net;
 use std::alloc::{AllocError, Global};
 
-/// How wide the element's box is.
+/// Returns the width of the element's box.
 #[tactic(auto, unfolding(crate::specs::Measures::element_width))]
 pub fn element_width(net: &Net, element: usize) -> u64
     requires { element < length net.now.shapes }
@@ -25,7 +25,7 @@ pub fn element_width(net: &Net, element: usize) -> u64
     box_width(net.name(element), class, inputs, outputs)
 }
 
-/// The mark of a port.
+/// Returns the mark of a port.
 fn mark_of(net: &Net, element: usize, side: Side, port: u16) -> Mark
     requires there { element < length net.now.shapes }
     requires has { Has net.now.connections (port_at element side port) }
@@ -40,7 +40,7 @@ fn mark_of(net: &Net, element: usize, side: Side, port: u16) -> Mark
     }
 }
 
-/// The marks of the element's ports at the side, in order.
+/// Returns the marks of the element's ports on one side, in order.
 fn marks_of(
     alloc: Global,
     net: &Net,
@@ -57,7 +57,7 @@ fn marks_of(
     Ok(marks)
 }
 
-/// What is seen of the element.
+/// Returns the look of the element.
 pub fn look_of(alloc: Global, net: &Net, element: usize) -> Result<Look, AllocError>
     requires { element < length net.now.shapes }
     ensures { IfOk result (IsLook net.now element) }

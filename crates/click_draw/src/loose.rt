@@ -1,4 +1,5 @@
-//! What is in no compound, moved into line with what it is joined to, as far as there is room.
+//! Moves elements and bends that are in no compound in line with their neighbours, if there is
+//! room.
 
 use crate::blocks::{Block, Level, blocks_of};
 use crate::measures::BESIDE;
@@ -6,10 +7,10 @@ use crate::preferred_places::{State, preferred};
 use crate::routes::Node;
 use std::alloc::{AllocError, Global};
 
-/// How often the rows are gone through from the top down and from the bottom up.
+/// The number of passes over the rows, each from the top down and from the bottom up.
 const ROUNDS: usize = 4;
 
-/// What is taken of a row: from where to where, and by which node, if that may move.
+/// An occupied part of a row, and the node that occupies it if that node may move.
 #[derive(Clone, Copy, Debug, PartialEq, Eq, PartialOrd, Ord)]
 struct Stretch {
     left: u64,
@@ -17,7 +18,8 @@ struct Stretch {
     node: usize,
 }
 
-/// The node of the block, if it is one by itself; else the greatest number, which is no node's.
+/// Returns the node that is this whole block, if it is in no compound. Otherwise returns
+/// `usize::MAX`, which is no node's number.
 fn loose_node(nodes: &[Node], name: usize, block: &Block) -> usize {
     match nodes.get(name) {
         Some(node) if block.first == block.last && node.compound_path.outer == usize::MAX => name,
@@ -25,7 +27,7 @@ fn loose_node(nodes: &[Node], name: usize, block: &Block) -> usize {
     }
 }
 
-/// What is taken of each row, from the left.
+/// Returns the occupied parts of each row, from left to right.
 fn stretches_of(
     alloc: Global,
     nodes: &[Node],
@@ -48,7 +50,7 @@ fn stretches_of(
     Ok(taken)
 }
 
-/// Takes the block's rows.
+/// Adds the block to the occupied parts of its rows.
 fn take(taken: &mut [Vec<Stretch>], block: &Block, node: usize) -> Result<(), AllocError> {
     for row in block.first..=block.last {
         if let Some(row) = taken.get_mut(row) {
@@ -62,7 +64,9 @@ fn take(taken: &mut [Vec<Stretch>], block: &Block, node: usize) -> Result<(), Al
     Ok(())
 }
 
-/// Moves the stretch to where its node would stand, between what is free from and what is free to.
+/// Returns the occupied part after its node was moved to its preferred place.
+///
+/// The part stays between `from` and `to`.
 fn moved(stretch: Stretch, state: &State, downward: bool, from: u64, to: u64) -> Stretch {
     let Some(node) = state.nodes.get(stretch.node) else {
         return stretch;
@@ -79,7 +83,7 @@ fn moved(stretch: Stretch, state: &State, downward: bool, from: u64, to: u64) ->
     }
 }
 
-/// Moves what is loose in a row.
+/// Moves the nodes of a row that may move.
 fn line_up(row: &mut [Stretch], state: &mut State, downward: bool) {
     let mut from = 0u64;
     for at in 0..row.len() {
@@ -97,7 +101,8 @@ fn line_up(row: &mut [Stretch], state: &mut State, downward: bool) {
     }
 }
 
-/// Moves what is loose in all rows. The order of the rows and the compounds stay as they are.
+/// Moves the nodes that may move, in all rows. The order within the rows and the compounds stay the
+/// same.
 pub fn line_up_all(
     alloc: Global,
     nodes: &[Node],

@@ -1,40 +1,40 @@
-//! How large a box is, and where its ports are.
+//! The sizes of boxes and the places of ports, in pixels.
 
 ghost use Rattle.std.specs.Prelude.{◌≡◌, ◌≤◌, length};
 ghost use Rattle.click_draw.specs.Measures as spec;
 
 use click_base::Class;
 
-/// How high each box is.
+/// The height of each box.
 pub const BOX_HEIGHT: u64 = 46;
 
-/// What is free beside a box, and round the whole picture.
+/// The free distance at each side of a box, and around the whole picture.
 pub const BESIDE: u64 = 20;
 
-/// How far two ports of a side are from one another.
+/// The distance between two ports of a side.
 const BETWEEN_PORTS: u64 = 20;
 
-/// How wide a letter of a name is.
+/// The width of a letter of a name.
 const LETTER: u64 = 8;
 
-/// How many letters widen a box; what is longer runs over it.
+/// The maximum number of letters that widen a box. A longer text extends beyond it.
 const MOST_LETTERS: usize = 4096;
 
-/// How wide a text is.
+/// Returns the width of a text.
 fn text_width(text: &[u8]) -> u64
     ensures { result ≡ spec.text_width text.now }
 {
     LETTER * text.len().min(MOST_LETTERS) as u64
 }
 
-/// How wide a row of ports is.
+/// Returns the width of a row of ports.
 fn ports_width(ports: u16) -> u64
     ensures { result ≡ spec.ports_width ports }
 {
     BETWEEN_PORTS * u64::from(ports)
 }
 
-/// How wide an element's box is: as its name, its class and its ports need.
+/// Returns the width of an element's box, which its name, its class and its ports determine.
 pub fn box_width(name: &[u8], class: Class, inputs: u16, outputs: u16) -> u64
     ensures { result ≡ spec.box_width name.now class inputs outputs }
 {
@@ -43,7 +43,9 @@ pub fn box_width(name: &[u8], class: Class, inputs: u16, outputs: u16) -> u64
     (texts + 20).max(ports)
 }
 
-/// How far a port is from the left side of a box so wide, with so many ports at its side.
+/// Returns the distance of a port from the left side of its box.
+///
+/// The box has this width, and this number of ports on the side.
 pub fn port_offset(width: u64, ports: u16, port: u16) -> u64
     ensures { result ≡ spec.port_offset width ports port }
 {

@@ -1,15 +1,16 @@
-//! Who stands beside whom in the rows: those that are joined come one below the other, and those of one compound side by side.
+//! The order of the nodes within each row. Connected nodes come below one another, and the nodes of
+//! a compound side by side.
 
 use crate::routes::{Link, Node};
 use std::alloc::{AllocError, Global};
 
-/// How often the rows are ordered from the top down and from the bottom up.
+/// The number of passes over the rows, each from the top down and from the bottom up.
 const ROUNDS: usize = 6;
 
-/// How long each row is taken to be.
+/// The length of each row while it is ordered, in arbitrary units.
 const ROW_LEN: u64 = 0x1_0000_0000;
 
-/// A node with what it is ordered by.
+/// The key by which a node is ordered in its row.
 #[derive(Clone, Copy, Debug, PartialEq, Eq, PartialOrd, Ord)]
 struct Turn {
     outer_preferred: u64,
@@ -20,7 +21,7 @@ struct Turn {
     node: usize,
 }
 
-/// A sum and how many numbers are in it.
+/// A sum, and the number of its terms.
 #[derive(Clone, Copy, Debug, PartialEq, Eq)]
 pub struct Mean {
     sum: u64,
@@ -44,7 +45,7 @@ impl Mean {
     }
 }
 
-/// The nodes of each row, in the order in which they are given.
+/// Returns the nodes of each row, in the order in which they are given.
 pub fn rows_with(alloc: Global, nodes: &[Node]) -> Result<Vec<Vec<usize>>, AllocError> {
     let last = nodes
         .iter()
@@ -64,7 +65,8 @@ pub fn rows_with(alloc: Global, nodes: &[Node]) -> Result<Vec<Vec<usize>>, Alloc
     Ok(rows)
 }
 
-/// Where a node would stand: at the mean of its neighbours, else where it stands.
+/// Returns the preferred place of a node: the mean of its neighbours' places. If it has no
+/// neighbours, returns its own place.
 fn preferred(links: &[Link], own: u64, places: &[u64]) -> u64 {
     let mut mean = Mean::none();
     for link in links {
@@ -74,19 +76,19 @@ fn preferred(links: &[Link], own: u64, places: &[u64]) -> u64 {
     mean.value().unwrap_or(own)
 }
 
-/// Adds a number to the mean of that name, if there is one.
+/// Adds a number to the mean with that name, if there is one.
 pub fn add_to(means: &mut [Mean], name: usize, number: u64) {
     if let Some(mean) = means.get_mut(name) {
         *mean = mean.with(number);
     }
 }
 
-/// The mean of that name, if it has any.
+/// Returns the mean with that name, if it has terms.
 pub fn mean_of(means: &[Mean], name: usize) -> Option<u64> {
     means.get(name).and_then(|mean| mean.value())
 }
 
-/// The row's nodes with their wishes.
+/// Returns the keys of the row's nodes, by their preferred places.
 fn turns_of(
     alloc: Global,
     row: &[usize],
@@ -113,14 +115,14 @@ fn turns_of(
     Ok(turns)
 }
 
-/// The means of the outer and of the inner compounds, each by its first element.
+/// The means of the outer and of the inner compounds. The name of each is its first element.
 #[derive(Drop)]
 struct Means {
     outer: Vec<Mean>,
     inner: Vec<Mean>,
 }
 
-/// Where the compounds stand in the mean of all rows.
+/// Returns the mean place of each compound over all rows.
 fn means_of(alloc: Global, nodes: &[Node], places: &[u64]) -> Result<Means, AllocError> {
     let mut outer = vec![in alloc; Mean::none(); nodes.len()]?;
     let mut inner = vec![in alloc; Mean::none(); nodes.len()]?;
@@ -131,7 +133,7 @@ fn means_of(alloc: Global, nodes: &[Node], places: &[u64]) -> Result<Means, Allo
     Ok(Means { outer, inner })
 }
 
-/// Gives those of a compound one wish, so that they stay side by side.
+/// Gives the nodes of each compound the same preferred place, so that they stay side by side.
 fn agree(turns: &mut [Turn], means: &Means) {
     for turn in turns.iter_mut() {
         turn.outer_preferred = mean_of(means.outer.as_slice(), turn.outer).unwrap_or(
@@ -141,7 +143,7 @@ fn agree(turns: &mut [Turn], means: &Means) {
     }
 }
 
-/// Puts down where each of the row stands.
+/// Writes the place of each node of the row.
 fn put_places(row: &[usize], places: &mut [u64]) {
     let step = ROW_LEN.checked_div(row.len() as u64).unwrap_or(0);
     let mut next = step / 2;
@@ -153,7 +155,7 @@ fn put_places(row: &[usize], places: &mut [u64]) {
     }
 }
 
-/// Orders a row by the wishes of its nodes.
+/// Orders a row by the keys of its nodes.
 fn arrange(
     alloc: Global,
     row: &mut Vec<usize>,
@@ -201,7 +203,7 @@ fn sweep_up(
     Ok(())
 }
 
-/// The nodes of each row from the left.
+/// Returns the nodes of each row, from left to right.
 pub fn ordered_rows(alloc: Global, nodes: &[Node]) -> Result<Vec<Vec<usize>>, AllocError> {
     let mut rows = rows_with(alloc, nodes)?;
     let mut places = vec![in alloc; 0u64; nodes.len()]?;

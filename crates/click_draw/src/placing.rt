@@ -1,4 +1,5 @@
-//! The boxes: each node of a row as near to where it would stand as those at its left allow.
+//! Places the boxes. Each node of a row stands as near to its preferred place as the nodes to its
+//! left allow.
 
 ghost use Rattle.std.specs.Prelude.{◌≡◌, ℕ, ◌<◌, ◌≤◌, length, All, IfOk};
 ghost use Rattle.click_draw.specs.Picture.{IsInside};
@@ -8,16 +9,17 @@ use crate::drawing::Rectangle;
 use crate::measures::{BESIDE, BOX_HEIGHT};
 use std::alloc::{AllocError, Global};
 
-/// What is free between two rows.
+/// The free distance between two rows, in pixels.
 const BETWEEN_ROWS: u64 = 44;
 
-/// Where the first row begins, below the title of a frame.
+/// The top of the first row, in pixels, which is below the title of a frame.
 const FIRST_ROW: u64 = 40;
 
-/// The furthest from the left that a node's wish counts.
+/// The maximum of a preferred distance from the left, in pixels.
 const FURTHEST: u64 = 0x1_0000_0000;
 
-/// A node in the order of the rows, and from left to right: its row, where it would stand, and its number.
+/// A node with its row and its preferred distance from the left. Slots are sorted by rows, and
+/// within a row from left to right.
 #[derive(Clone, Copy, Debug, PartialEq, Eq, PartialOrd, Ord)]
 pub struct Slot {
     pub row: usize,
@@ -25,7 +27,9 @@ pub struct Slot {
     pub node: usize,
 }
 
-/// Where the next box of a row may begin, and how far the boxes go to the right.
+/// The place where the next box of a row may begin (`free`).
+///
+/// It also has the rightmost side of all boxes up to now (`furthest`).
 #[derive(Clone, Copy, Debug, PartialEq, Eq)]
 pub struct Pen {
     pub row: usize,
@@ -38,7 +42,8 @@ impl Pen {
     ghost use Rattle.std.specs.Prelude.{◌≤◌, ◌+◌, ◌*◌, ◌<◌};
     ghost use Rattle.click_draw.specs.kept.Placing.{Draws, IsNear};
 
-    /// The box for a slot of that width, and the pen behind it. So many were drawn before.
+    /// Places the box of a slot, and returns it with the pen after it. `drawn` boxes were placed
+    /// before.
     fn draw(self, slot: &Slot, width: u64, drawn: usize) -> (Rectangle, Pen)
         requires wide { width ≤ 32788 }
         requires few { drawn ≤ 131072 }
@@ -71,7 +76,7 @@ impl Pen {
     }
 }
 
-/// The boxes of the nodes, and how wide and high the picture is.
+/// The boxes of the nodes, and the size of the picture.
 #[derive(Drop)]
 pub struct Placed {
     pub boxes: Vec<Rectangle>,
@@ -79,7 +84,7 @@ pub struct Placed {
     pub height: u64,
 }
 
-/// Places the nodes of those widths in the order of the slots.
+/// Places the boxes of nodes with these widths, in the order of the slots.
 pub fn place(alloc: Global, widths: &[u64], slots: &[Slot]) -> Result<Placed, AllocError>
     requires few { length widths.now ≤ 131072 }
     requires wide { All (λ w. w ≤ 32788) widths.now }

@@ -1,4 +1,5 @@
-//! How far from the left each node of the rows would stand: below and above what it is joined to.
+//! The preferred distance of each node from the left: in line with the nodes that it is connected
+//! to.
 
 use crate::blocks::{Level, align_blocks, midway, separate_blocks};
 use crate::loose::line_up_all;
@@ -6,13 +7,14 @@ use crate::measures::BESIDE;
 use crate::routes::{Link, Node};
 use std::alloc::{AllocError, Global};
 
-/// How often the rows are gone through from the top down and from the bottom up.
+/// The number of passes over the rows, each from the top down and from the bottom up.
 const ROUNDS: usize = 8;
 
-/// Where the first row begins, so far from 0 that nothing comes there.
+/// The left side of each node at the start, so far from 0 that moving left never reaches 0.
 const START: u64 = 0x1_0000_0000;
 
-/// Where the node would stand so that its lines are straight in the mean, else where it stands. Lines out of the node's scope do not count.
+/// Returns the place where the node's lines are straight on average. If it has no lines that count,
+/// returns its own place. Only lines within its block count.
 pub fn preferred(node: &Node, links: &[Link], own: u64, state: &State) -> u64 {
     let mut sum = 0u64;
     let mut count = 0u64;
@@ -26,7 +28,7 @@ pub fn preferred(node: &Node, links: &[Link], own: u64, state: &State) -> u64 {
     sum.checked_div(count).unwrap_or(own)
 }
 
-/// The nodes, how far from the left they stand, and the level whose blocks are laid out, each by itself.
+/// The nodes, their left sides, and the level whose blocks are laid out one by one.
 #[derive(Drop)]
 pub struct State<'a> {
     pub nodes: &'a [Node],
@@ -35,7 +37,7 @@ pub struct State<'a> {
 }
 
 impl State<'_> {
-    /// Whether another node is in the block of this one.
+    /// Returns whether the other node is in the same block.
     fn shares(&self, node: &Node, other: usize) -> bool {
         self.nodes
             .get(other)
@@ -43,7 +45,7 @@ impl State<'_> {
     }
 }
 
-/// The wishes of a row's nodes.
+/// Returns the preferred places of the nodes in a row.
 fn preferred_places_of(
     alloc: Global,
     row: &[usize],
@@ -62,7 +64,7 @@ fn preferred_places_of(
     Ok(preferred_places)
 }
 
-/// Moves each to the right as far as its left neighbour in its block needs.
+/// Moves each node to the right, if its left neighbour in the block needs the room.
 fn give_way_right(row: &[usize], state: &State, preferred_places: &mut [u64]) {
     let mut before: Option<(&Node, u64)> = None;
     for (number, preferred) in row.iter().zip(preferred_places.iter_mut()) {
@@ -79,7 +81,7 @@ fn give_way_right(row: &[usize], state: &State, preferred_places: &mut [u64]) {
     }
 }
 
-/// Moves each to the left as far as its right neighbour in its block needs.
+/// Moves each node to the left, if its right neighbour in the block needs the room.
 fn give_way_left(row: &[usize], state: &State, preferred_places: &mut [u64]) {
     let mut after: Option<(&Node, u64)> = None;
     for (number, preferred) in row.iter().zip(preferred_places.iter_mut()).rev() {
@@ -96,7 +98,8 @@ fn give_way_left(row: &[usize], state: &State, preferred_places: &mut [u64]) {
     }
 }
 
-/// Moves the nodes of a row to where they would stand, as far as their neighbours leave room; two that hinder one another give way alike.
+/// Moves the nodes of a row to their preferred places, if their neighbours leave room. Two nodes in
+/// each other's way move equally far.
 fn place_row(
     alloc: Global,
     row: &[usize],
@@ -115,7 +118,7 @@ fn place_row(
     Ok(())
 }
 
-/// How far from the left each node would stand, each block of the level laid out by itself.
+/// Returns the left sides of the nodes after each block of the level was laid out by itself.
 fn lefts_of_level(
     alloc: Global,
     nodes: &[Node],
@@ -143,7 +146,8 @@ fn lefts_of_level(
     Ok(lefts)
 }
 
-/// How far from the left each node would stand, by the order of the rows. The leftmost stands at 0.
+/// Returns the preferred left sides of the nodes, given the order of the rows. The leftmost is at
+/// 0.
 pub fn preferred_places_in(
     alloc: Global,
     nodes: &[Node],

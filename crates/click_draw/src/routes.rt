@@ -1,4 +1,4 @@
-//! What stands in the rows: the elements, and the bends of the lines that pass rows.
+//! The nodes of the rows: the elements, and the bends of lines that pass rows.
 
 use crate::compounds::CompoundPath;
 use crate::measures::port_offset;
@@ -7,13 +7,14 @@ use click_expand::Connection;
 use click_ports::Net;
 use std::alloc::{AllocError, Global};
 
-/// How wide a bend is, with what is free beside its line.
+/// The width of a bend, with the free distance at both sides of its line, in pixels.
 pub const BEND: u64 = 8;
 
-/// How many bends there may be; a line for which there is no room any more has none.
+/// The maximum number of bends. A line for which none is left has no bends.
 pub const MOST_BENDS: usize = 65536;
 
-/// A line that leads to a node in the row next above or below: the node, and how far the line's end is from the left side there and here.
+/// A part of a line that leads to a node in the row above or below. It has the distance of its end
+/// from the node's left side, there and here.
 #[derive(Clone, Copy, Debug, PartialEq, Eq)]
 pub struct Link {
     pub node: usize,
@@ -21,7 +22,8 @@ pub struct Link {
     pub here: u64,
 }
 
-/// A node of a row: an element, or a bend. The chain of a bend is the first bend of its line; an element is one by itself.
+/// A node of a row: an element or a bend. The chain of a bend is the first bend of its line; that
+/// of an element is the element itself.
 #[derive(Drop)]
 pub struct Node {
     pub row: usize,
@@ -32,7 +34,7 @@ pub struct Node {
     pub below: Vec<Link>,
 }
 
-/// The bends of a connection's line: their nodes, which follow one another, and whether the line goes up.
+/// The bends of a connection's line, which are consecutive nodes, and whether the line goes up.
 #[derive(Clone, Copy, Debug, PartialEq, Eq)]
 pub struct Route {
     pub first: usize,
@@ -40,14 +42,15 @@ pub struct Route {
     pub rises: bool,
 }
 
-/// The nodes, the elements first, and the way of each connection.
+/// The nodes, the elements first, and the route of each connection.
 #[derive(Drop)]
 pub struct LayoutGraph {
     pub nodes: Vec<Node>,
     pub routes: Vec<Route>,
 }
 
-/// How far the element's port is from the left side of its box, which is so wide; 0 where there is no such element.
+/// Returns the distance of an element's port from the left side of its box. Returns 0 if there is
+/// no such element.
 fn offset(net: &Net, widths: &[u64], element: usize, side: Side, port: u8) -> u64 {
     match widths.get(element) {
         Some(width) if element < net.shapes().len() => {
@@ -58,7 +61,7 @@ fn offset(net: &Net, widths: &[u64], element: usize, side: Side, port: u8) -> u6
 }
 
 impl LayoutGraph {
-    /// A bend in the row, tied to nothing.
+    /// Adds a bend in the row, without links.
     fn add_bend(
         &mut self,
         alloc: Global,
@@ -77,7 +80,7 @@ impl LayoutGraph {
         Ok(())
     }
 
-    /// Ties two nodes, of which the upper is next above the lower.
+    /// Links two nodes, of which the first is in the row above the second.
     fn link(&mut self, upper: (usize, u64), lower: (usize, u64)) -> Result<(), AllocError> {
         if let Some(node) = self.nodes.get_mut(upper.0) {
             node.below.push(Link {
@@ -96,14 +99,15 @@ impl LayoutGraph {
         Ok(())
     }
 
-    /// The row and the compound path of a node.
+    /// Returns the row and the compound path of a node.
     fn at(&self, node: usize) -> (usize, CompoundPath) {
         self.nodes
             .get(node)
             .map_or((0, CompoundPath::none()), |it| (it.row, it.compound_path))
     }
 
-    /// A way down, from an output to an input that stands lower, with a bend in each row between.
+    /// Makes the route from an output down to an input in a lower row, with a bend in each row
+    /// between.
     fn go_down(
         &mut self,
         alloc: Global,
@@ -131,7 +135,8 @@ impl LayoutGraph {
         })
     }
 
-    /// A way back, from an output to an input that stands no lower, with a bend in each row from the one to the other.
+    /// Makes the route from an output to an input that is not in a lower row. It has a bend in each
+    /// row from the one to the other, with both of them.
     fn go_up(
         &mut self,
         alloc: Global,
@@ -158,7 +163,8 @@ impl LayoutGraph {
         })
     }
 
-    /// Adds the way of a connection whose ends are so far from the left sides of their boxes.
+    /// Adds the route of a connection. `ends` are the distances of its ports from the left sides of
+    /// their boxes.
     fn join(
         &mut self,
         alloc: Global,
@@ -178,7 +184,7 @@ impl LayoutGraph {
     }
 }
 
-/// The elements as nodes of those rows, widths and compound paths.
+/// Returns the elements as nodes with these rows, widths and compound paths.
 fn elements_of(
     alloc: Global,
     rows: &[usize],
@@ -202,7 +208,9 @@ fn elements_of(
     Ok(nodes)
 }
 
-/// The routes of the net's connections, between elements of those widths, rows and compound paths.
+/// Returns the nodes of the net and the routes of its connections.
+///
+/// The elements have these widths, rows and compound paths.
 pub fn layout_graph_of(
     alloc: Global,
     net: &Net,

@@ -1,9 +1,10 @@
-//! The rows of the elements: each stands below those that lead to it, but for the connections that close a ring.
+//! The rows of the elements. Each element is below those that lead to it, except over connections
+//! that close a ring.
 
 use click_expand::Connection;
 use std::alloc::{AllocError, Global};
 
-/// For each element those that its outputs lead to, in the order of the connections.
+/// Returns for each element those that its outputs lead to, in the order of the connections.
 fn targets_of(
     alloc: Global,
     elements: usize,
@@ -21,7 +22,7 @@ fn targets_of(
     Ok(targets)
 }
 
-/// Which elements a connection leads to.
+/// Returns for each element whether a connection leads to it.
 fn fed(
     alloc: Global,
     elements: usize,
@@ -36,7 +37,10 @@ fn fed(
     Ok(fed)
 }
 
-/// A walk along the connections: which elements it met, and those that it left for good, in that order.
+/// A walk along the connections: the elements that it has met, and those that it has left.
+///
+/// The walk never returns to an element that it has left. They are in the order in which it left
+/// them.
 #[derive(Drop)]
 struct Walk {
     met: Vec<bool>,
@@ -44,7 +48,7 @@ struct Walk {
 }
 
 impl Walk {
-    /// Whether the element is met for the first time.
+    /// Returns whether the element is met for the first time, and marks it as met.
     fn meets(&mut self, element: usize) -> bool {
         match self.met.get_mut(element) {
             Some(met) => !std::mem::replace(met, true),
@@ -52,7 +56,7 @@ impl Walk {
         }
     }
 
-    /// Goes from the element to all that it leads to, if it was not met.
+    /// Walks from the element to all that it leads to, unless it was met before.
     fn go(
         &mut self,
         alloc: Global,
@@ -82,7 +86,9 @@ impl Walk {
     }
 }
 
-/// The elements, each before those that it leads to, but for the connections that close a ring.
+/// Returns the elements in an order in which each comes before those that it leads to.
+///
+/// Connections that close a ring do not count.
 fn downstream_order(
     alloc: Global,
     elements: usize,
@@ -94,7 +100,7 @@ fn downstream_order(
         met: vec![in alloc; false; elements]?,
         left: Vec::new(alloc),
     };
-    // Each step follows a connection, or leaves an element.
+    // Each step follows a connection or leaves an element.
     let steps = elements.saturating_add(connections.len());
     for (element, is_fed) in fed.iter().enumerate() {
         if !*is_fed {
@@ -109,7 +115,7 @@ fn downstream_order(
     Ok(left)
 }
 
-/// The number of each element in the order.
+/// Returns the position of each element in the order.
 fn turns_of(alloc: Global, order: &[usize]) -> Result<Vec<usize>, AllocError> {
     let mut turns = vec![in alloc; 0usize; order.len()]?;
     for (turn, element) in order.iter().enumerate() {
@@ -120,7 +126,7 @@ fn turns_of(alloc: Global, order: &[usize]) -> Result<Vec<usize>, AllocError> {
     Ok(turns)
 }
 
-/// Puts what the element leads to, and what comes later in the order, below it.
+/// Moves the targets that come later in the order below the element.
 fn push_down(element: usize, turns: &[usize], targets: &[usize], rows: &mut [usize]) {
     let below = rows.get(element).copied().unwrap_or(0).saturating_add(1);
     let turn = turns.get(element);
@@ -133,7 +139,7 @@ fn push_down(element: usize, turns: &[usize], targets: &[usize], rows: &mut [usi
     }
 }
 
-/// The row next above the highest of the targets that stand lower.
+/// Returns the row directly above the highest of the targets that are below the element.
 fn row_above(element: usize, targets: &[usize], rows: &[usize]) -> Option<usize> {
     let own = rows.get(element).copied().unwrap_or(0);
     let mut highest = None;
@@ -146,7 +152,8 @@ fn row_above(element: usize, targets: &[usize], rows: &[usize]) -> Option<usize>
     highest.map(|row| row.saturating_sub(1))
 }
 
-/// The row of each element, from 0 at the top. An element to which nothing leads stands close above what it leads to.
+/// Returns the row of each element, from 0 at the top. An element to which no connection leads is
+/// directly above the highest element that it leads to.
 pub fn rows_of(
     alloc: Global,
     elements: usize,

@@ -1,4 +1,4 @@
-//! A drawing as SVG.
+//! Writes a drawing as SVG.
 
 ghost use Rattle.std.specs.Prelude.{◌≡◌, ◌++◌, ◌∷◌, [], flat_map, decimal, codes, IfOk, OnOk};
 ghost use Rattle.click_draw.specs.Svg as spec;
@@ -9,11 +9,11 @@ use click_base::Class;
 use itoa::Buffer;
 use std::alloc::{AllocError, Global};
 
-/// What all drawings have in common: colours, light and dark, and the tip of a line.
+/// The part that all drawings have in common: colours, light and dark, and the tip of a line.
 pub const STYLE: &[u8] =
     b"<style>\nsvg{background:#fff;font:12px ui-monospace,monospace}\ntext{fill:#222;text-anchor:middle}\n.class{font-size:11px;opacity:.7}\n.box{fill:#f4f4f0;stroke:#222}\n.rib{stroke:#222}\n.push{fill:#222;stroke:#222}\n.pull{fill:#fff;stroke:#222}\n.rim{fill:none;stroke:#222}\npolyline{fill:none;stroke:#222;stroke-linejoin:round;marker-end:url(#tip)}\n.tip{fill:#222}\n.frame rect{fill:#4a7;fill-opacity:.08;stroke:#4a7}\n.frame text{fill:#385;text-anchor:start}\n@media(prefers-color-scheme:dark){\nsvg{background:#16181c}\ntext{fill:#ddd}\n.box{fill:#24272d}\n.box,.rib,.push,.pull,.rim,polyline{stroke:#ddd}\n.push,.tip{fill:#ddd}\n.pull{fill:#16181c}\n.frame text{fill:#7ca}\n}\n</style>\n<marker id=\"tip\" viewBox=\"0 0 8 8\" refX=\"8\" refY=\"4\" markerWidth=\"8\" markerHeight=\"8\" orient=\"auto\"><path class=\"tip\" d=\"M0 1L8 4L0 7z\"/></marker>\n";
 
-/// Adds a number.
+/// Appends a number.
 fn push_number(text: &mut Vec<u8>, number: u64) -> Result<(), AllocError>
     ensures { OnOk result (text.new.items ≡ text.old.items ++ decimal number) }
 {
@@ -22,7 +22,7 @@ fn push_number(text: &mut Vec<u8>, number: u64) -> Result<(), AllocError>
     Ok(())
 }
 
-/// Adds a byte of a name, escaped if XML marks by it.
+/// Appends a byte of a name, escaped if it has a meaning in XML.
 fn push_escaped(text: &mut Vec<u8>, byte: u8) -> Result<(), AllocError>
     ensures { OnOk result (text.new.items ≡ text.old.items ++ spec.escaped_byte byte) }
 {
@@ -36,7 +36,7 @@ fn push_escaped(text: &mut Vec<u8>, byte: u8) -> Result<(), AllocError>
     Ok(())
 }
 
-/// Adds a name.
+/// Appends a name, escaped.
 fn push_name(text: &mut Vec<u8>, name: &[u8]) -> Result<(), AllocError>
     ensures { OnOk result (text.new.items ≡ text.old.items ++ spec.escaped name.now) }
 {
@@ -46,7 +46,7 @@ fn push_name(text: &mut Vec<u8>, name: &[u8]) -> Result<(), AllocError>
     Ok(())
 }
 
-/// Adds two numbers.
+/// Appends two numbers.
 fn push_pair(text: &mut Vec<u8>, x: u64, between: &[u8], y: u64) -> Result<(), AllocError>
     ensures { OnOk result (text.new.items ≡ text.old.items ++ spec.pair x between.now y) }
 {
@@ -56,7 +56,7 @@ fn push_pair(text: &mut Vec<u8>, x: u64, between: &[u8], y: u64) -> Result<(), A
     Ok(())
 }
 
-/// Adds a width and a height as attributes.
+/// Appends a width and a height as attributes.
 #[tactic(auto, using(std::proofs::Common::append_assoc), unfolding(crate::specs::Svg::size))]
 fn push_size(text: &mut Vec<u8>, width: u64, height: u64) -> Result<(), AllocError>
     ensures { OnOk result (text.new.items ≡ text.old.items ++ spec.size width height) }
@@ -67,7 +67,7 @@ fn push_size(text: &mut Vec<u8>, width: u64, height: u64) -> Result<(), AllocErr
     Ok(())
 }
 
-/// Adds what moves a group to where the rectangle begins.
+/// Appends the attribute that moves a group to the upper left corner of the rectangle.
 fn push_move(text: &mut Vec<u8>, to: &Rectangle) -> Result<(), AllocError>
     ensures { OnOk result (text.new.items ≡ text.old.items ++ spec.moved to.now) }
 {
@@ -77,7 +77,7 @@ fn push_move(text: &mut Vec<u8>, to: &Rectangle) -> Result<(), AllocError>
     Ok(())
 }
 
-/// Adds the frame of a compound.
+/// Appends the frame of a compound.
 fn push_frame(text: &mut Vec<u8>, frame: &Frame) -> Result<(), AllocError>
     ensures { OnOk result (text.new.items ≡ text.old.items ++ spec.frame_svg frame.now) }
 {
@@ -91,7 +91,7 @@ fn push_frame(text: &mut Vec<u8>, frame: &Frame) -> Result<(), AllocError>
     Ok(())
 }
 
-/// Adds a point of a line that is not its first.
+/// Appends a point of a line after its first one.
 fn push_point(text: &mut Vec<u8>, point: &Point) -> Result<(), AllocError>
     ensures { OnOk result (text.new.items ≡ text.old.items ++ spec.next_point point.now) }
 {
@@ -100,7 +100,7 @@ fn push_point(text: &mut Vec<u8>, point: &Point) -> Result<(), AllocError>
     Ok(())
 }
 
-/// Adds several such points.
+/// Appends several points of a line after its first one.
 fn push_points(text: &mut Vec<u8>, points: &[Point]) -> Result<(), AllocError>
     ensures { OnOk result (text.new.items ≡ text.old.items ++ flat_map spec.next_point points.now) }
 {
@@ -110,7 +110,7 @@ fn push_points(text: &mut Vec<u8>, points: &[Point]) -> Result<(), AllocError>
     Ok(())
 }
 
-/// Adds the line of a connection.
+/// Appends the line of a connection.
 fn push_line(text: &mut Vec<u8>, line: &Line) -> Result<(), AllocError>
     ensures { OnOk result (text.new.items ≡ text.old.items ++ spec.line_svg line.now) }
 {
@@ -124,14 +124,14 @@ fn push_line(text: &mut Vec<u8>, line: &Line) -> Result<(), AllocError>
     Ok(())
 }
 
-/// The name of a port's kind.
+/// Returns the name of a port's kind.
 fn kind_name(pull: bool) -> &'static [u8]
     ensures { result.now ≡ spec.kind_name pull }
 {
     if pull { b"pull" } else { b"push" }
 }
 
-/// Adds an outline that begins at a place.
+/// Appends an outline that begins at a point.
 fn push_outline(
     text: &mut Vec<u8>,
     class: &[u8],
@@ -150,7 +150,7 @@ fn push_outline(
     Ok(())
 }
 
-/// Adds the second outline of what is agnostic.
+/// Appends the second outline of an agnostic port.
 fn push_rim(
     text: &mut Vec<u8>,
     agnostic: bool,
@@ -166,7 +166,7 @@ fn push_rim(
     Ok(())
 }
 
-/// Adds the mark of an input: a triangle that points into the box.
+/// Appends the mark of an input: a triangle that points into the box.
 #[tactic(auto, using(std::proofs::Common::append_assoc), unfolding(crate::specs::Svg::input_svg))]
 fn push_input(text: &mut Vec<u8>, mark: &Mark) -> Result<(), AllocError>
     ensures { OnOk result (text.new.items ≡ text.old.items ++ spec.input_svg mark.now) }
@@ -188,7 +188,7 @@ fn push_input(text: &mut Vec<u8>, mark: &Mark) -> Result<(), AllocError>
     Ok(())
 }
 
-/// Adds the mark of an output: a square at the lower side of a box so high.
+/// Appends the mark of an output: a square at the lower side of a box of this height.
 fn push_output(text: &mut Vec<u8>, mark: &Mark, height: u64) -> Result<(), AllocError>
     ensures { OnOk result (text.new.items ≡ text.old.items ++ spec.output_svg height mark.now) }
 {
@@ -211,7 +211,7 @@ fn push_output(text: &mut Vec<u8>, mark: &Mark, height: u64) -> Result<(), Alloc
     Ok(())
 }
 
-/// Adds the marks of inputs.
+/// Appends the marks of inputs.
 fn push_inputs(text: &mut Vec<u8>, marks: &[Mark]) -> Result<(), AllocError>
     ensures { OnOk result (text.new.items ≡ text.old.items ++ flat_map spec.input_svg marks.now) }
 {
@@ -221,7 +221,7 @@ fn push_inputs(text: &mut Vec<u8>, marks: &[Mark]) -> Result<(), AllocError>
     Ok(())
 }
 
-/// Adds the marks of outputs of a box so high.
+/// Appends the marks of outputs of a box of this height.
 fn push_outputs(text: &mut Vec<u8>, marks: &[Mark], height: u64) -> Result<(), AllocError>
     ensures { OnOk result (text.new.items ≡ text.old.items ++ flat_map (spec.output_svg height) marks.now) }
 {
@@ -231,7 +231,7 @@ fn push_outputs(text: &mut Vec<u8>, marks: &[Mark], height: u64) -> Result<(), A
     Ok(())
 }
 
-/// Adds a rib across a box, so far below its top.
+/// Appends a rib across a box of this width, `below` pixels under its top.
 fn push_rib(text: &mut Vec<u8>, below: u64, width: u64) -> Result<(), AllocError>
     ensures { OnOk result (text.new.items ≡ text.old.items ++ spec.rib width below) }
 {
@@ -243,7 +243,7 @@ fn push_rib(text: &mut Vec<u8>, below: u64, width: u64) -> Result<(), AllocError
     Ok(())
 }
 
-/// Adds the ribs of a box so wide.
+/// Appends the ribs of a box of this width.
 #[tactic(auto, using(std::proofs::Common::append_assoc), unfolding(crate::specs::Svg::all_ribs))]
 fn push_all_ribs(text: &mut Vec<u8>, width: u64) -> Result<(), AllocError>
     ensures { OnOk result (text.new.items ≡ text.old.items ++ spec.all_ribs width) }
@@ -254,14 +254,14 @@ fn push_all_ribs(text: &mut Vec<u8>, width: u64) -> Result<(), AllocError>
     Ok(())
 }
 
-/// Whether elements of the class store packets.
+/// Returns whether elements of the class store packets.
 fn stores(class: Class) -> bool
     ensures { result ≡ spec.stores class }
 {
     matches!(class, Class::Queue | Class::FrontDropQueue)
 }
 
-/// Adds the ribs of a box so wide, if its element stores packets.
+/// Appends the ribs of a box of this width, if its element stores packets.
 fn push_ribs(text: &mut Vec<u8>, stores: bool, width: u64) -> Result<(), AllocError>
     ensures { OnOk result (text.new.items ≡ text.old.items ++ spec.ribs stores width) }
 {
@@ -271,7 +271,7 @@ fn push_ribs(text: &mut Vec<u8>, stores: bool, width: u64) -> Result<(), AllocEr
     Ok(())
 }
 
-/// Adds the text elements of a box so wide: the name and the class.
+/// Appends the texts in a box of this width: the name and the class.
 fn push_texts(text: &mut Vec<u8>, look: &Look, width: u64) -> Result<(), AllocError>
     ensures { OnOk result (text.new.items ≡ text.old.items ++ spec.texts look.now width) }
 {
@@ -287,7 +287,7 @@ fn push_texts(text: &mut Vec<u8>, look: &Look, width: u64) -> Result<(), AllocEr
     Ok(())
 }
 
-/// Adds the box of an element.
+/// Appends the box of an element.
 fn push_box(text: &mut Vec<u8>, figure: &Figure) -> Result<(), AllocError>
     ensures { OnOk result (text.new.items ≡ text.old.items ++ spec.box_svg figure.now) }
 {
@@ -299,7 +299,7 @@ fn push_box(text: &mut Vec<u8>, figure: &Figure) -> Result<(), AllocError>
     Ok(())
 }
 
-/// Adds an element.
+/// Appends an element.
 fn push_figure(text: &mut Vec<u8>, figure: &Figure) -> Result<(), AllocError>
     ensures { OnOk result (text.new.items ≡ text.old.items ++ spec.figure_svg figure.now) }
 {
@@ -314,7 +314,7 @@ fn push_figure(text: &mut Vec<u8>, figure: &Figure) -> Result<(), AllocError>
     Ok(())
 }
 
-/// Adds the first tag, of a drawing so wide and high.
+/// Appends the first tag of a drawing of this size.
 fn push_head(text: &mut Vec<u8>, width: u64, height: u64) -> Result<(), AllocError>
     ensures { OnOk result (text.new.items ≡ text.old.items ++ spec.head width height) }
 {
@@ -326,7 +326,7 @@ fn push_head(text: &mut Vec<u8>, width: u64, height: u64) -> Result<(), AllocErr
     Ok(())
 }
 
-/// Adds frames.
+/// Appends frames.
 fn push_frames(text: &mut Vec<u8>, frames: &[Frame]) -> Result<(), AllocError>
     ensures { OnOk result (text.new.items ≡ text.old.items ++ flat_map spec.frame_svg frames.now) }
 {
@@ -336,7 +336,7 @@ fn push_frames(text: &mut Vec<u8>, frames: &[Frame]) -> Result<(), AllocError>
     Ok(())
 }
 
-/// Adds lines.
+/// Appends lines.
 fn push_lines(text: &mut Vec<u8>, lines: &[Line]) -> Result<(), AllocError>
     ensures { OnOk result (text.new.items ≡ text.old.items ++ flat_map spec.line_svg lines.now) }
 {
@@ -346,7 +346,7 @@ fn push_lines(text: &mut Vec<u8>, lines: &[Line]) -> Result<(), AllocError>
     Ok(())
 }
 
-/// Adds figures.
+/// Appends figures.
 fn push_figures(text: &mut Vec<u8>, figures: &[Figure]) -> Result<(), AllocError>
     ensures { OnOk result (text.new.items ≡ text.old.items ++ flat_map spec.figure_svg figures.now) }
 {
@@ -356,7 +356,10 @@ fn push_figures(text: &mut Vec<u8>, figures: &[Figure]) -> Result<(), AllocError
     Ok(())
 }
 
-/// The drawing as an SVG text: the frames, the lines `c0`, `c1` .. and the elements `e0`, `e1` .. over them.
+/// Returns the drawing as SVG.
+///
+/// The frames come first, over them the lines `c0`, `c1` and so on, and over these the elements
+/// `e0`, `e1` and so on.
 pub fn svg(alloc: Global, drawing: &Drawing) -> Result<Vec<u8>, AllocError>
     ensures { IfOk result (λ text. text.items ≡ svg_of STYLE.now drawing.now) }
 {

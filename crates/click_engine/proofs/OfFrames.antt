@@ -1,5 +1,8 @@
--- Pushes and pulls as the transfer stack makes them, frame by frame: the slots (`SlotFrames`), the first frame (`FirstFrames`), one turn (`FrameTurns`,
--- `PushTurns`, `PullTurns`), and several turns (`PushFrames`, `OutputFrames`, `PulledInputs`).
+-- Lemmas about pushes and pulls on the transfer stack, frame by frame.
+--
+-- They are about the slots (`SlotFrames`), the first frame (`FirstFrames`), one engine turn
+-- (`FrameTurns`, `PushTurns`, `PullTurns`), and several turns (`PushFrames`, `OutputFrames`,
+-- `PulledInputs`).
 pub mod FirstFrames
 pub mod FrameTurns
 pub mod OutputFrames

@@ -1,5 +1,8 @@
--- What runs and rounds keep: relations that hold before and after a run (`RunRelations`) and a round (`RoundRelations`), of each element
--- (`ElementInvariants`, `PortFit`), and of the whole plant (`FirstOrder`, `PlantOrder`).
+-- Lemmas about what packet runs and rounds preserve.
+--
+-- A relation holds between each element before and after a packet run (`RunRelations`) or a round
+-- (`RoundRelations`). From this follow properties of each element (`ElementInvariants`, `PortFit`)
+-- and of the whole plant (`FirstOrder`, `PlantOrder`).
 pub mod ElementInvariants
 pub mod FirstOrder
 pub mod PlantOrder

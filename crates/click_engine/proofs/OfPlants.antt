@@ -1,5 +1,8 @@
--- Plants: the first of a net (`FirstPlant`), the elements (`PlantElements`, `BlankElement`), the connections of their ports (`ConnectionRows`,
--- `ConnectedPorts`), the places of tasks (`TaskPlaces`), and take-over (`ElementTakeOver`).
+-- Lemmas about plants.
+--
+-- They are about the first plant of a net (`FirstPlant`), its elements (`PlantElements`,
+-- `BlankElement`), the connections of their ports (`ConnectionRows`, `ConnectedPorts`), the tasks
+-- (`TaskPlaces`), and taking over (`ElementTakeOver`).
 pub mod BlankElement
 pub mod ConnectedPorts
 pub mod ConnectionRows

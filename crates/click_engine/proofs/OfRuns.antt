@@ -1,6 +1,9 @@
--- Pushes and pulls as the definitions have them: where they begin (`RunStarts`), their steps (`RunSteps`, `Crossings`, `TeePushes`), the ports that
--- they come to (`RunPorts`), the crossings that they cost (`PushCosts`) and the depth that these need (`PushDepth`, `PullDepth`), and the tasks of a
--- round (`RoundTasks`) with what they begin with (`TaskStarts`).
+-- Lemmas about pushes and pulls as the definitions say them.
+--
+-- They are about where packet runs begin (`RunStarts`), their steps (`RunSteps`, `Crossings`,
+-- `TeePushes`) and the ports that they reach (`RunPorts`). Others are about the crossings that they
+-- cost (`PushCosts`), the depth that they need (`PushDepth`, `PullDepth`), the tasks of a round
+-- (`RoundTasks`), and the first packet of a task (`TaskStarts`).
 pub mod Crossings
 pub mod PullDepth
 pub mod PushCosts

@@ -1,4 +1,4 @@
--- The connections of a net as what pushes and pulls follow, and the elements of a run.
+-- The connections of a net as the wiring that pushes and pulls follow, and the run state in memory.
 use Rattle.std.specs.Prelude.{ℕ, List, [], ◌∷◌, nat_eq, Bool, ◌&&◌, Option, Some, None, if◌then◌else◌}
 use Rattle.click_classes.specs.declared.ports.Side.{Side}
 use Rattle.click_classes.specs.declared.ports.Side.TheVariants as side
@@ -11,7 +11,7 @@ use Rattle.click_engine.specs.declared.run_state.RunMemory.{RunMemory}
 abbrev pub run_state_of : RunMemory → RunState
 run_state_of w = record { elements = w.elements.items; left = w.left; overruns = w.overruns }
 
--- the output that a connection leaves, and the input that it comes to
+-- the end of a connection at a side: the output that it leaves, or the input that it enters
 abbrev pub end_of : Side → Connection → ConnectionEnd
 end_of side.Output c = record { element = c.from; port = c.out_port }
 end_of side.Input c = record { element = c.to; port = c.in_port }
@@ -19,13 +19,14 @@ end_of side.Input c = record { element = c.to; port = c.in_port }
 abbrev pub is_port : ConnectionEnd → ℕ → ℕ → Bool
 is_port p at number = nat_eq p.element at && nat_eq p.port number
 
--- the other end of the first connection that a port has
+-- the other end of the first connection at a port
 abbrev pub first_joined : Side → Side → List Connection → ℕ → ℕ → Option ConnectionEnd
 first_joined near far [] at number = None
 first_joined near far (c ∷ cs) at number =
     if is_port (end_of near c) at number then Some (end_of far c) else first_joined near far cs at number
 
--- where a push at an output goes, and which output a pull at an input asks; by the rules of ports just one connection is there
+-- the input that a push at an output goes to, and the output that a pull at an input asks; the port
+-- rules allow one such connection only
 abbrev pub target_in : List Connection → ℕ → ℕ → Option ConnectionEnd
 target_in cs = first_joined side.Output side.Input cs
 

@@ -1,4 +1,4 @@
--- What a contract sees of a plant: a net, its tasks and devices, what its elements hold, and the overruns.
+-- A plant as contracts see it: its net, tasks, devices, elements and overruns.
 use Rattle.std.specs.Prelude.{◌≡◌, ℕ, ◌+◌, List, [], ◌∷◌}
 use Rattle.click_classes.specs.State.{class}
 use Rattle.click_classes.specs.declared.ports.Side.TheVariants as side
@@ -12,12 +12,12 @@ use Rattle.click_engine.specs.declared.devices.PacketDirection.TheVariants as di
 use Rattle.click_engine.specs.Adjacency.{wiring_of}
 use Rattle.click_engine.specs.RunState.{Wiring, RunState}
 
--- how many pushes and pulls over connections one run may make
+-- the maximum number of crossings of one packet run
 abbrev pub most_crossings : ℕ
 most_crossings = 1024
 
--- The places of the elements with a task, those where packets of a device enter and leave, and the elements in flat order. Runs change only elements and
--- overruns.
+-- the indices of the elements with a task; the elements where packets of a device enter, and where
+-- they leave; and the elements in flat order. Packet runs change only elements and overruns
 pub record Plant : Type 0 where
   pub net : Net
   pub tasks : List ℕ
@@ -26,7 +26,7 @@ pub record Plant : Type 0 where
   pub elements : List Element
   pub overruns : ℕ
 
--- an element as the net has it, with this state
+-- the element at an index of the net, with this state
 abbrev pub element_of : Net → ℕ → State → Element
 element_of net at s = record {
   class = class s;
@@ -51,7 +51,7 @@ pub record IsStarted (net : Net) (states : List State) (v : Plant) : Type 0 wher
 abbrev pub wiring : Plant → Wiring
 wiring v = wiring_of v.net
 
--- the run state of a run with n crossings, and the plant that a run leaves
+-- the run state of a packet run that may make n crossings, and the plant after a packet run
 abbrev pub begin : ℕ → Plant → RunState
 begin n v = record { elements = v.elements; left = n; overruns = v.overruns }
 

@@ -1,4 +1,4 @@
--- Runs and rounds.
+-- Packet runs and rounds.
 use Rattle.std.specs.Prelude.{ℕ, zero, suc, ◌+◌, List, [], ◌∷◌, Option, Some, None, slice_get, slice_index_or}
 use Rattle.click_packet.specs.Packet.{Packet}
 use Rattle.click_classes.specs.Acts.{Stored, burst_of, emission}
@@ -20,19 +20,19 @@ sink_of v device = element_with v.sinks device
 abbrev pub state_at : Plant → ℕ → State
 state_at v at = (slice_index_or v.elements at blank).state
 
--- one run: a packet leaves the element by its output 0
+-- one packet run: a packet is pushed at output 0 of an element
 abbrev pub emitted : Plant → ℕ → Packet → Plant
 emitted v at p = end v (push (wiring v) most_crossings (begin most_crossings v) at 0 p)
 
--- one run: the element asks its input 0
+-- one packet run: an element pulls at its input 0
 abbrev pub asks : Plant → ℕ → Pulled
 asks v at = pull (wiring v) most_crossings (begin most_crossings v) at 0
 
--- a packet enters from a device
+-- a packet of a device enters
 abbrev pub arrive : Plant → List ℕ → Packet → Plant
 arrive v device p = elim (source_of v device) [ None ↦ v | Some at ↦ emitted v at p ]
 
--- what a device takes, and the plant after it
+-- a device takes a packet: the plant afterwards, and the packet
 abbrev pub transmit : Plant → List ℕ → Plant
 transmit v device = elim (sink_of v device) [ None ↦ v | Some at ↦ end v (asks v at).run_state ]
 
@@ -47,7 +47,7 @@ pub record RoundResult : Type 0 where
 abbrev pub idle : Plant → RoundResult
 idle v = record { plant = v; packets = 0 }
 
--- an Unqueue asks, and pushes what it got in the same run
+-- the task of an Unqueue: it pulls, and pushes what it got in the same packet run
 abbrev pub unqueued : Plant → ℕ → RoundResult
 unqueued v at =
     let r = asks v at in
@@ -56,17 +56,17 @@ unqueued v at =
       | Some p ↦ record { plant = end v (push (wiring v) most_crossings r.run_state at 0 p); packets = 1 }
     ]
 
--- a Discard asks
+-- the task of a Discard: it pulls
 abbrev pub discarded : Plant → ℕ → RoundResult
 discarded v at =
     let r = asks v at in
     elim r.packet [ None ↦ record { plant = end v r.run_state; packets = 0 } | Some p ↦ record { plant = end v r.run_state; packets = 1 } ]
 
--- one run: a source's packet is counted, and leaves by output 0
+-- one packet run: the source counts a packet, which is pushed at output 0
 abbrev pub sourced : Plant → ℕ → Stored → Plant
 sourced v at e = end v (push (wiring v) most_crossings (with_state (begin most_crossings v) at e.state) at 0 e.packet)
 
--- up to `count` packets of a source, each in a run of its own
+-- up to `count` packets of a source, each in a packet run of its own
 unfoldable pub bursts : ℕ → ℕ → Plant → RoundResult
 bursts zero at v = idle v
 bursts (suc count) at v = elim (emission (state_at v at)) [

@@ -1,14 +1,14 @@
 -- Pushes and pulls, by recursion on the crossings left.
 --
--- `left` is the number of crossings that the run has left. `depth` bounds how deep a push or pull nests: each level
--- spends a crossing, so a depth of at least `left` never comes into play.
+-- `left` is the number of crossings that the packet run has left. `depth` bounds the depth of the
+-- recursion. Each level spends a crossing, so a depth of at least `left` changes nothing.
 use Rattle.std.specs.Prelude.{◌≡◌, ℕ, zero, suc, ◌+◌, Bool, Option, Some, None, if◌then◌else◌, ◌==◌}
 use Rattle.click_packet.specs.Packet.{Packet}
 use Rattle.click_classes.specs.Acts.{after}
 use Rattle.click_classes.specs.Acts.{tries, stored}
 use Rattle.click_engine.specs.RunState.{Wiring, RunState, element_at, with_state, acted_at, given_at, spent, overrun}
 
--- what a pull leaves and answers
+-- the run state after a pull, and its answer
 pub record Pulled : Type 0 where
   pub run_state : RunState
   pub packet : Option Packet
@@ -16,12 +16,14 @@ pub record Pulled : Type 0 where
 abbrev pub nothing : RunState → Pulled
 nothing w = record { run_state = w; packet = None }
 
--- `count` outputs from `first` on get the packet in order, each in the run state that the one before left
+-- `count` outputs from `first` on get the packet in order, each in the run state that the one
+-- before left
 abbrev pub spread : (RunState → ℕ → RunState) → ℕ → ℕ → RunState → RunState
 spread push_at zero first w = w
 spread push_at (suc count) first w = spread push_at count (first + 1) (push_at w first)
 
--- a packet p was pulled through `input` of the element `at`: copies go out first, then it is the answer
+-- packet p was pulled through `input` of the element `at`: copies are pushed first, then the packet
+-- is the answer
 abbrev pub give : (RunState → ℕ → Packet → RunState) → RunState → ℕ → ℕ → Packet → Pulled
 give push_at w at input p =
     let g = given_at w at input p in
@@ -30,7 +32,7 @@ give push_at w at input p =
       packet = if g.answers then Some g.packet else None;
     }
 
--- `count` inputs from `input` on, round, are asked in order up to the first packet
+-- `count` inputs from `input` on, cyclically, are asked in order until one has a packet
 abbrev pub ask : (RunState → ℕ → Pulled) → (RunState → ℕ → Packet → Pulled) → ℕ → ℕ → ℕ → RunState → Pulled
 ask pull_at give_at inputs zero input w = nothing w
 ask pull_at give_at inputs (suc count) input w =
@@ -76,7 +78,7 @@ module _ (net : Wiring) where
             ]
       ]
 
-  -- the parts of a step, by the depth that is left below it
+  -- the parts of a push or pull, by the depth that is left
   abbrev pub sent : ℕ → ℕ → Packet → ℕ → ℕ → RunState → RunState
   sent depth at p count first w = spread (λ v o. push depth v at o p) count first w
 
@@ -86,7 +88,7 @@ module _ (net : Wiring) where
   abbrev pub asked : ℕ → ℕ → ℕ → ℕ → ℕ → RunState → Pulled
   asked depth at inputs count input w = ask (λ v i. pull depth v at i) (λ v i p. given depth at v i p) inputs count input w
 
--- a pull left this world, and its yes or no is whether `packet` is the answer
+-- a pull had this result; `yes` is whether `packet` is its answer
 pub record Answers (r : Pulled) (w : RunState) (yes : Bool) (packet : Packet) : Type 0 where
   pub run_state : w ≡ r.run_state
   pub answer : r.packet ≡ (if yes then Some packet else None)

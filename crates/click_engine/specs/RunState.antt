@@ -1,4 +1,4 @@
--- What a run changes, and the connections that it follows.
+-- The state that a packet run changes, and the wiring that it follows.
 use Rattle.std.specs.Prelude.{◌≡◌, ℕ, Bool, ◌+◌, ◌-◌, ◌^◌, min, List, Option, slice_index_or, slice_set}
 use Rattle.click_classes.specs.declared.state.State.{State}
 use Rattle.click_classes.specs.declared.state.State.TheVariants.{Idle}
@@ -9,18 +9,18 @@ use Rattle.click_base.specs.declared.class.Class.TheVariants as class
 use Rattle.click_engine.specs.declared.run_state.Element.{Element}
 use Rattle.click_engine.specs.declared.run_state.ConnectionEnd.{ConnectionEnd}
 
--- where a push at an output goes, and which output a pull at an input asks
+-- the input that a push at an output goes to, and the output that a pull at an input asks
 pub record Wiring : Type 0 where
   pub target : ℕ → ℕ → Option ConnectionEnd
   pub source : ℕ → ℕ → Option ConnectionEnd
 
--- the elements, the crossings that the run has left, and the overruns so far
+-- the elements, the crossings that the packet run has left, and the overruns up to now
 pub record RunState : Type 0 where
   pub elements : List Element
   pub left : ℕ
   pub overruns : ℕ
 
--- an element that drops what it gets and has nothing to give
+-- an Idle, which drops each packet that it gets and never has one
 abbrev pub blank : Element
 blank = record { class = class.Idle; inputs = 0; outputs = 0; state = Idle }
 
@@ -31,14 +31,14 @@ element_at w at = slice_index_or w.elements at blank
 abbrev pub with_state : RunState → ℕ → State → RunState
 with_state w at s = record w { elements = slice_set w.elements at (record (element_at w at) { state = s }) }
 
--- the run state with one crossing spent, and the run state after a crossing that was not to be had
+-- the run state after a crossing was spent, and after one was needed when none was left
 abbrev pub spent : RunState → RunState
 spent w = record w { left = w.left - 1 }
 
 abbrev pub overrun : RunState → RunState
 overrun w = record w { overruns = min (w.overruns + 1) (2 ^ 64 - 1) }
 
--- what a push, or a pulled packet, does at an element, and the inputs that it asks
+-- what an element does with a pushed packet, and with a pulled one, and the inputs that it asks
 abbrev pub acted_at : RunState → ℕ → ℕ → Packet → PushEffect
 acted_at w at input p = let e = element_at w at in act e.outputs e.state input p
 
@@ -48,13 +48,14 @@ given_at w at input p = let e = element_at w at in gives e.inputs e.outputs e.st
 abbrev pub tries_at : RunState → ℕ → ℕ → PortRange
 tries_at w at output = let e = element_at w at in tries e.inputs e.state output
 
--- a push came into the element: the run state, the packet and the outputs after that
+-- a packet p was pushed into an input: the run state, the packet and its outputs afterwards
 pub record Acts (old new : RunState) (at input : ℕ) (p q : Packet) (to : PortRange) : Type 0 where
   pub run_state : new ≡ with_state old at (acted_at old at input p).state
   pub packet : q ≡ (acted_at old at input p).packet
   pub outputs : to ≡ (acted_at old at input p).outputs
 
--- a packet was pulled through an input: the run state, the packet, the outputs for copies, and whether it is the answer
+-- a packet p was pulled through an input: the run state and the packet afterwards, the outputs that
+-- get copies, and whether it is the answer
 pub record GivesOut (old new : RunState) (at input : ℕ) (p q : Packet) (copies : PortRange) (answers : Bool) : Type 0 where
   pub run_state : new ≡ with_state old at (given_at old at input p).state
   pub packet : q ≡ (given_at old at input p).packet

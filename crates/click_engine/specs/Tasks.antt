@@ -1,4 +1,4 @@
--- Which elements have something to do in each round (Click manual, "Tasks").
+-- The elements that have a task, which runs once in each round (Click manual, "Tasks").
 use Rattle.std.specs.Prelude.{ℕ, ◌+◌, List, [], ◌∷◌}
 use Rattle.click_base.specs.declared.class.Class.{Class}
 use Rattle.click_base.specs.declared.class.Class.TheVariants as class
@@ -14,7 +14,7 @@ HasTask net at class.Unqueue = Unit {0}
 HasTask net at class.Discard = Has net.connections (input at 0) × IsPull net.shapes net.connections (input at 0)
 HasTask net at c = ⊥
 
--- the places of those with a task among the elements from a place on, in flat order
+-- the indices of the elements with a task among these, which begin at an index, in flat order
 pub data AreTasks (net : Net) : ℕ → List Shape → List ℕ → Type 0 where
   over : (at : ℕ) → AreTasks net at [] []
   task : (at : ℕ) (s : Shape) (ss : List Shape) (places : List ℕ) → HasTask net at s.class → AreTasks net (at + 1) ss places → AreTasks net at (s ∷ ss) (at ∷ places)

@@ -1,4 +1,4 @@
--- What the code keeps on its way; no public contract cites it.
+-- Definitions that only the crate's own proofs use. No public contract cites them.
 pub mod Asked
 pub mod Transfers
 pub mod Slots

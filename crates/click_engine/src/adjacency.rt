@@ -1,4 +1,4 @@
-//! The connections of a net, in tables.
+//! Tables of the connections of a net: the other end of the first connection at each port.
 ghost use Rattle.std.specs.Prelude.{◌≡◌, ◌<◌, ◌≤◌, ◌^◌, ℕ, [], ◌∷◌, length, vec_len, slice_index_or, IfOk, OnOk, None, true, nat_eq, replicate, map};
 ghost use Rattle.click_engine.specs.Adjacency.{end_of, first_joined};
 ghost use Rattle.click_engine.specs.kept.Tables.{element_of, end_apart, ends_of, entry, far_of, first_far, first_of, nowhere, port_of, rows_of, IsNoted, IsTable};
@@ -11,28 +11,37 @@ use std::alloc::{AllocError, Global};
 use std::marker::Model;
 use std::slice;
 
-/// What the ports of an element at a side are joined to, where that is noted. Mostly there is none but the first: that one takes no memory.
+/// The other ends of the first connections at the ports of one element, inputs or outputs.
+///
+/// perf: most elements use one port at most; `First` takes no memory of its own.
 #[derive(Drop)]
 enum PortRow {
     First(Option<ConnectionEnd>),
     Several(Vec<Option<ConnectionEnd>>),
 }
 
-/// A net, with tables of where a push at an output goes and which output a pull at an input asks.
+/// A net with tables of its connections.
+///
+/// They give for each output the input that a push goes to, and for each input the output that a
+/// pull asks.
 #[derive(Drop)]
 pub struct Adjacency {
     net: Net,
     targets: Vec<PortRow>,
     sources: Vec<PortRow>,
-    /// The element that a push at the first output of each element goes to: mostly there is no other output.
+    /// For each element, the element that its output 0 is connected to.
+    ///
+    /// perf: most elements have no other output.
     ahead: Vec<usize>,
-    /// The inputs of these. They stand apart, so that a step finds each by the place alone.
+    /// For each element, the input that its output 0 is connected to.
+    ///
+    /// perf: apart from `ahead`, so that both are found by the index of the element alone.
     ahead_ports: Vec<u16>,
-    /// Which output a pull at the first input of each element asks.
+    /// For each element, the output that its input 0 is connected to.
     behind: Vec<ConnectionEnd>,
 }
 
-/// Past all elements, in the place of none.
+/// The end of no connection: its index is past all elements.
 const NOWHERE: ConnectionEnd = ConnectionEnd {
     element: usize::MAX,
     port: 0,
@@ -53,7 +62,7 @@ impl Model for Adjacency {
         × (length w.ahead.items ≡ length w.net.shapes) × (length w.ahead_ports.items ≡ length w.net.shapes) × AreFirst w.behind.items (source_in w.net.connections) };
 }
 
-/// The connection's port at a side: the output that it leaves, or the input that it comes to.
+/// Returns the connection's end at a side: the output that it leaves, or the input that it enters.
 fn end_of(side: Side, connection: Connection) -> ConnectionEnd
     ensures { result ≡ end_of side connection }
 {
@@ -69,7 +78,7 @@ fn end_of(side: Side, connection: Connection) -> ConnectionEnd
     }
 }
 
-/// Makes a row at least so long.
+/// Extends a row to at least `count` ports. The new ones are not connected.
 fn extend_row(row: &mut Vec<Option<ConnectionEnd>>, count: usize) -> Result<(), AllocError>
     ensures same { (n : ℕ) → slice_index_or row.new.items n None ≡ slice_index_or row.old.items n None }
     ensures long { OnOk result (count ≤ vec_len row.new) }
@@ -80,7 +89,7 @@ fn extend_row(row: &mut Vec<Option<ConnectionEnd>>, count: usize) -> Result<(), 
     Ok(())
 }
 
-/// Notes what a port is joined to, unless something is noted there.
+/// Enters the other end of a port's connection, unless one is entered already.
 fn note(slot: &mut Option<ConnectionEnd>, far: ConnectionEnd)
     ensures { slot.new ≡ first_of slot.old true far }
 {
@@ -89,7 +98,9 @@ fn note(slot: &mut Option<ConnectionEnd>, far: ConnectionEnd)
     }
 }
 
-/// The same in a row of several ports.
+/// Enters the other end of a port's connection, unless one is entered already.
+///
+/// The row has several ports.
 fn note_among(
     row: &mut Vec<Option<ConnectionEnd>>,
     port: usize,
@@ -103,7 +114,7 @@ fn note_among(
     Ok(())
 }
 
-/// A row of several ports, which begins with what the first is joined to, with what a port is joined to noted.
+/// Returns a row of several ports, with `first` at port 0, in which `far` is entered at `port`.
 fn several_with(
     alloc: Global,
     first: Option<ConnectionEnd>,
@@ -119,7 +130,7 @@ fn several_with(
     Ok(row)
 }
 
-/// Notes in a row what a port is joined to, unless something is noted there.
+/// Enters the other end of a port's connection in a row, unless one is entered already.
 fn note_port(
     alloc: Global,
     row: &mut PortRow,
@@ -142,7 +153,7 @@ fn note_port(
     }
 }
 
-/// So many rows without an entry.
+/// Returns `count` rows in which no port is connected.
 fn empty_rows(alloc: Global, count: usize) -> Result<Vec<PortRow>, AllocError>
     ensures { IfOk result (λ rows. rows_of rows.items ≡ replicate count (None ∷ [])) }
 {
@@ -153,7 +164,7 @@ fn empty_rows(alloc: Global, count: usize) -> Result<Vec<PortRow>, AllocError>
     Ok(rows)
 }
 
-/// Notes what a connection joins.
+/// Enters a connection in the table: `far` at the port `near`, unless one is entered there.
 fn note_connection(
     alloc: Global,
     rows: &mut Vec<PortRow>,
@@ -167,7 +178,8 @@ fn note_connection(
     note_port(alloc, &mut rows[near.element], usize::from(near.port), far)
 }
 
-/// For each port of a side the other end of the first connection there.
+/// Returns the table of one side: for each of its ports, the other end of the first connection
+/// there.
 fn joined(alloc: Global, net: &Net, side: Side, other: Side) -> Result<Vec<PortRow>, AllocError>
     ensures table { IfOk result (λ rows. IsTable (rows_of rows.items) (first_joined side other net.now.connections)) }
     ensures all { IfOk result (λ rows. vec_len rows ≡ length net.now.shapes) }
@@ -184,7 +196,7 @@ fn joined(alloc: Global, net: &Net, side: Side, other: Side) -> Result<Vec<PortR
     Ok(rows)
 }
 
-/// What a port is joined to, if it is joined.
+/// Returns the other end that is entered, or `NOWHERE` if none is.
 fn far_of(noted: Option<ConnectionEnd>) -> ConnectionEnd
     ensures { result ≡ far_of noted }
 {
@@ -194,7 +206,7 @@ fn far_of(noted: Option<ConnectionEnd>) -> ConnectionEnd
     }
 }
 
-/// What the ports of a row are joined to.
+/// Returns the other ends that are entered in a row, by port.
 #[inline(always)]
 fn ends_of(row: &PortRow) -> &[Option<ConnectionEnd>]
     ensures { result.now ≡ ends_of row.now }
@@ -205,7 +217,7 @@ fn ends_of(row: &PortRow) -> &[Option<ConnectionEnd>]
     }
 }
 
-/// What the first port of a row is joined to.
+/// Returns the other end at port 0 of a row, or `NOWHERE`.
 fn first_far(row: &[Option<ConnectionEnd>]) -> ConnectionEnd
     ensures { result ≡ first_far row.now }
 {
@@ -215,7 +227,7 @@ fn first_far(row: &[Option<ConnectionEnd>]) -> ConnectionEnd
     }
 }
 
-/// What the first port of each row is joined to.
+/// Returns the other end at port 0 of each row, or `NOWHERE`.
 fn first_ends(alloc: Global, rows: &[PortRow]) -> Result<Vec<ConnectionEnd>, AllocError>
     ensures { IfOk result (λ ports. ports.items ≡ map first_far (rows_of rows.now)) }
 {
@@ -226,7 +238,7 @@ fn first_ends(alloc: Global, rows: &[PortRow]) -> Result<Vec<ConnectionEnd>, All
     Ok(ports)
 }
 
-/// The same, with elements and ports apart.
+/// Does what `first_ends` does, with the elements in one list and the ports in another.
 fn first_ends_apart(alloc: Global, rows: &[PortRow]) -> Result<(Vec<usize>, Vec<u16>), AllocError>
     ensures places { IfOk result (λ ends. ends.0.items ≡ map element_of (map first_far (rows_of rows.now))) }
     ensures ports { IfOk result (λ ends. ends.1.items ≡ map port_of (map first_far (rows_of rows.now))) }
@@ -241,7 +253,8 @@ fn first_ends_apart(alloc: Global, rows: &[PortRow]) -> Result<(Vec<usize>, Vec<
     Ok((places, ports))
 }
 
-/// What the first port of an element is joined to, where elements and ports stand apart.
+/// Returns the other end at port 0 of element `at`, from a list of elements and one of ports.
+/// Returns `NOWHERE` past the end.
 #[inline(always)]
 fn near_apart(places: &[usize], ports: &[u16], at: usize) -> ConnectionEnd
     requires { length ports.now ≡ length places.now }
@@ -256,7 +269,8 @@ fn near_apart(places: &[usize], ports: &[u16], at: usize) -> ConnectionEnd
     }
 }
 
-/// What the ports of an element are joined to, as far as any is.
+/// Returns the other ends at the ports of element `at`. Ports past the end of the slice are not
+/// connected.
 #[inline(always)]
 fn row_at(rows: &[PortRow], at: usize) -> &[Option<ConnectionEnd>]
     ensures { result.now ≡ slice_index_or (rows_of rows.now) at [] }
@@ -267,14 +281,14 @@ fn row_at(rows: &[PortRow], at: usize) -> &[Option<ConnectionEnd>]
     }
 }
 
-/// What the tables say of a port.
+/// Returns the entry of a table for a port of element `at`.
 fn look_up(rows: &[PortRow], at: usize, port: usize) -> Option<ConnectionEnd>
     ensures { result ≡ entry (rows_of rows.now) at port }
 {
     *row_at(rows, at).get(port)?
 }
 
-/// What a port of a row is joined to, if it is joined.
+/// Returns the other end at a port of a row, or `NOWHERE` if the port is not connected.
 #[inline(always)]
 pub(crate) fn far_in(row: &[Option<ConnectionEnd>], port: usize) -> ConnectionEnd
     ensures { result ≡ far_of (slice_index_or row.now port None) }
@@ -285,7 +299,7 @@ pub(crate) fn far_in(row: &[Option<ConnectionEnd>], port: usize) -> ConnectionEn
     }
 }
 
-/// What the first port of an element is joined to.
+/// Returns the other end at port 0 of element `at`. Returns `NOWHERE` past the end.
 #[inline(always)]
 fn near(ports: &[ConnectionEnd], at: usize) -> ConnectionEnd
     ensures { result ≡ slice_index_or ports.now at nowhere }
@@ -301,7 +315,7 @@ impl Adjacency {
     ghost use Rattle.click_engine.specs.Adjacency.{wiring_of};
     ghost use Rattle.click_engine.specs.kept.Tables.{far_of, AreFirstApart};
 
-    /// The tables of a net.
+    /// Builds the tables of a net.
     pub fn new(alloc: Global, net: Net) -> Result<Adjacency, AllocError>
         ensures { IfOk result (λ w. w ≡ net) }
     {
@@ -319,14 +333,14 @@ impl Adjacency {
         })
     }
 
-    /// The net.
+    /// Returns the net.
     pub(crate) fn net(&self) -> &Net
         ensures { result.now ≡ self.now }
     {
         &self.net
     }
 
-    /// The elements that pushes at the first output of each element go to, and their inputs.
+    /// Returns for each element what its output 0 is connected to: the elements, and their inputs.
     #[inline(always)]
     pub(crate) fn ahead(&self) -> (&[usize], &[u16])
         ensures first { AreFirstApart result.0.now result.1.now (wiring_of self.now).target }
@@ -336,7 +350,8 @@ impl Adjacency {
         (self.ahead.as_slice(), self.ahead_ports.as_slice())
     }
 
-    /// What the outputs of an element are joined to, as far as any is.
+    /// Returns the inputs that the outputs of element `at` are connected to. Outputs past the end
+    /// of the slice are not connected.
     #[inline(always)]
     pub(crate) fn targets(&self, at: usize) -> &[Option<ConnectionEnd>]
         ensures { (output : ℕ) → slice_index_or result.now output None ≡ (wiring_of self.now).target at output }
@@ -344,7 +359,7 @@ impl Adjacency {
         row_at(self.targets.as_slice(), at)
     }
 
-    /// How many elements there are.
+    /// Returns the number of elements.
     #[inline(always)]
     pub(crate) fn len(&self) -> usize
         ensures { result ≡ length self.now.shapes }
@@ -352,7 +367,7 @@ impl Adjacency {
         self.ahead.len()
     }
 
-    /// The input that a push at an output goes to.
+    /// Returns the input that a push at an output goes to, or `NOWHERE`.
     #[inline(always)]
     pub(crate) fn target(&self, at: usize, output: usize) -> ConnectionEnd
         ensures { result ≡ far_of ((wiring_of self.now).target at output) }
@@ -363,7 +378,7 @@ impl Adjacency {
         far_of(look_up(self.targets.as_slice(), at, output))
     }
 
-    /// The output that a pull at the first input asks.
+    /// Returns the output that a pull at input 0 asks, or `NOWHERE`.
     #[inline(always)]
     pub(crate) fn first_source(&self, at: usize) -> ConnectionEnd
         ensures { result ≡ far_of ((wiring_of self.now).source at 0) }
@@ -371,7 +386,7 @@ impl Adjacency {
         near(self.behind.as_slice(), at)
     }
 
-    /// The output that a pull at an input asks.
+    /// Returns the output that a pull at an input asks.
     #[inline(always)]
     pub(crate) fn source(&self, at: usize, input: usize) -> Option<ConnectionEnd>
         ensures { result ≡ (wiring_of self.now).source at input }

@@ -1,4 +1,4 @@
-//! Copies of a packet that several outputs are to get.
+//! Copies of a packet that several outputs get.
 ghost use Rattle.std.specs.Prelude.{◌≡◌, ◌+◌, ◌<◌, ◌≤◌, length, vec_len, vec_capacity};
 ghost use Rattle.click_engine.specs.Adjacency.{run_state_of, wiring_of};
 ghost use Rattle.click_engine.specs.kept.Transfers.{Served};
@@ -9,7 +9,8 @@ use crate::run_state::RunMemory;
 use crate::transfer_stack::PushFrame;
 use crate::transfers::push_copy;
 
-/// Pushes copies of the packet of `push_frame` at its outputs but for the last, in order, up to a copy that several outputs are to get. `copy` is their slot.
+/// Pushes copies of the packet of `push_frame` at all its outputs except the last, in order. Stops
+/// early at a copy that several outputs are to get. `copy` is the slot of the copies.
 #[inline(always)]
 fn push_copies(
     adjacency: &Adjacency,
@@ -30,7 +31,7 @@ fn push_copies(
     }
 }
 
-/// The same for the slot `top` and the one above it.
+/// Does what `push_copies` does, with the frame in slot `top` and the copies in the slot above it.
 #[inline(always)]
 fn serve_slots(
     adjacency: &Adjacency,
@@ -45,7 +46,7 @@ fn serve_slots(
     push_copies(adjacency, run_memory, &mut below[top], &mut above[0]);
 }
 
-/// The same for the frames `top` and above it.
+/// Does what `serve_slots` does, for slots in a vector.
 #[inline(always)]
 pub(crate) fn serve_above(
     adjacency: &Adjacency,

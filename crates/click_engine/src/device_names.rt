@@ -1,4 +1,4 @@
-//! Names of devices, which are found without an index where they are few.
+//! Names of devices. The first few are found by comparison, without an index.
 ghost use Rattle.std.specs.Prelude.{◌≡◌, ◌≤◌, ◌++◌, ◌∷◌, [], take, vec_len, position, IfSome, Some, OnOk, OnErr, if◌then◌else◌};
 ghost use Rattle.std.specs.Str.{bytes_eq};
 ghost use Rattle.click_scopes.specs.Elements.{has_name};
@@ -8,14 +8,16 @@ use click_scopes::Names;
 use std::alloc::{AllocError, Global};
 use std::marker::Model;
 
-/// So many names are compared one after the other before the index is asked, which takes longer than some comparisons.
+/// The number of names that are compared one after another before the index is searched.
+///
+/// perf: a search of the index takes longer than a few comparisons.
 const NEAR: usize = 8;
 
-/// Names in order, each once.
+/// Names in order, without repetition.
 #[derive(Drop)]
 pub struct DeviceNames {
     all: Names,
-    /// The first of them.
+    /// The first names, at most `NEAR`.
     near: Vec<Vec<u8>>,
 }
 
@@ -30,7 +32,9 @@ impl Model for DeviceNames {
     ghost invariant = { λ n. texts n.near.items ≡ take 8 n.all };
 }
 
-/// Whether the names are one. Most are short, so that a call would take longer than this.
+/// Returns whether two names are equal.
+///
+/// perf: inline, because most names are so short that a call would take longer.
 #[inline(always)]
 fn is_name(name: &[u8], other: &[u8]) -> bool
     ensures { result ≡ bytes_eq name.now other.now }
@@ -46,7 +50,7 @@ fn is_name(name: &[u8], other: &[u8]) -> bool
     true
 }
 
-/// Where the name stands.
+/// Returns the position of the name in the list.
 fn near_place(names: &[Vec<u8>], name: &[u8]) -> Option<usize>
     ensures { result ≡ position (bytes_eq name.now) (texts names.now) }
 {
@@ -58,7 +62,7 @@ fn near_place(names: &[Vec<u8>], name: &[u8]) -> Option<usize>
     None
 }
 
-/// Adds the name, unless so many are there.
+/// Appends the name, unless there are `NEAR` names already.
 fn add_near(names: &mut Vec<Vec<u8>>, alloc: Global, name: &[u8]) -> Result<(), AllocError>
     requires { vec_len names.old ≤ 8 }
     ensures added { OnOk result (texts names.new.items ≡ take 8 (texts names.old.items ++ name.now ∷ [])) }
@@ -72,7 +76,7 @@ fn add_near(names: &mut Vec<Vec<u8>>, alloc: Global, name: &[u8]) -> Result<(), 
 }
 
 impl DeviceNames {
-    /// No names.
+    /// Returns an empty list of names.
     pub(crate) fn new(alloc: Global) -> DeviceNames
         ensures { result ≡ [] }
     {
@@ -82,14 +86,14 @@ impl DeviceNames {
         }
     }
 
-    /// Whether the name is there.
+    /// Returns whether the name is in the list.
     pub(crate) fn has(&self, name: &[u8]) -> bool
         ensures { result ≡ has_name name.now self.now }
     {
         self.all.has(name)
     }
 
-    /// Where the name stands, if it is one of the first.
+    /// Returns the position of the name if it is one of the first `NEAR`.
     #[inline(always)]
     pub(crate) fn near(&self, name: &[u8]) -> Option<usize>
         ensures { IfSome result (λ at. position (bytes_eq name.now) self.now ≡ Some at) }
@@ -97,7 +101,7 @@ impl DeviceNames {
         near_place(self.near.as_slice(), name)
     }
 
-    /// Where the name stands.
+    /// Returns the position of the name.
     #[inline(always)]
     pub(crate) fn place(&self, name: &[u8]) -> Option<usize>
         ensures { result ≡ position (bytes_eq name.now) self.now }
@@ -109,7 +113,7 @@ impl DeviceNames {
         self.all.place(name)
     }
 
-    /// Adds the name at the end, if it is not there.
+    /// Appends the name if it is not in the list.
     pub(crate) fn add(&mut self, alloc: Global, name: &[u8]) -> Result<(), AllocError>
         ensures added { OnOk result (self.new ≡ (if has_name name.now self.old then self.old else self.old ++ name.now ∷ [])) }
     {

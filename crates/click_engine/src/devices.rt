@@ -1,4 +1,4 @@
-//! Where packets of a device enter and leave.
+//! The elements where the packets of each device enter and leave.
 ghost use Rattle.std.specs.Prelude.{◌≡◌, option_map};
 ghost use Rattle.click_engine.specs.Devices.{device_of};
 
@@ -7,16 +7,16 @@ use click_classes::State;
 use std::alloc::{AllocError, Global};
 use std::marker::Model;
 
-/// Which way packets pass at a device.
+/// The direction in which packets pass at a device.
 #[derive(Clone, Copy, Debug, PartialEq, Eq)]
 pub enum PacketDirection {
-    /// They enter, at a FromDevice.
+    /// Packets enter, at a FromDevice.
     In,
-    /// They leave, at a ToDevice.
+    /// Packets leave, at a ToDevice.
     Out,
 }
 
-/// Devices, each once, with the places of their elements.
+/// Devices without repetition, each with the index of its element.
 #[derive(Drop)]
 pub struct Devices {
     names: DeviceNames,
@@ -35,7 +35,7 @@ impl Model for Devices {
     ghost invariant = { λ d. length d.names ≡ length d.places.items };
 }
 
-/// The device whose packets pass at the element that way.
+/// Returns the device that a state names: that of a FromDevice or of a ToDevice, by the direction.
 fn device_of(direction: PacketDirection, state: &State) -> Option<&[u8]>
     ensures { option_map (λ name. name.now) result ≡ device_of direction state.now }
 {
@@ -55,7 +55,8 @@ impl Devices {
     ghost use Rattle.std.specs.Prelude.{◌≡◌, IfOk, IfSome, Some};
     ghost use Rattle.click_engine.specs.Devices.{devices_from, element_with};
 
-    /// The devices of elements with these states, each with the first element in flat order that names it.
+    /// Collects the devices of these states, each with the first element in flat order that names
+    /// it.
     pub(crate) fn of(
         alloc: Global,
         direction: PacketDirection,
@@ -78,7 +79,7 @@ impl Devices {
         Ok(Devices { names, places })
     }
 
-    /// The place of the device's element, if it is one of the first devices.
+    /// Returns the index of the device's element if the device is one of the first `NEAR`.
     #[inline(always)]
     pub(crate) fn near(&self, device: &[u8]) -> Option<usize>
         ensures { IfSome result (λ at. element_with self.now device.now ≡ Some at) }
@@ -87,7 +88,7 @@ impl Devices {
         Some(self.places[at])
     }
 
-    /// The place of the device's element.
+    /// Returns the index of the device's element.
     pub(crate) fn element(&self, device: &[u8]) -> Option<usize>
         ensures { result ≡ element_with self.now device.now }
     {

@@ -1,4 +1,4 @@
-//! The names of elements, by which one is found.
+//! Finds an element by its flat name.
 ghost use Rattle.std.specs.Prelude.{◌≡◌, ℕ, List, position};
 ghost use Rattle.std.specs.Str.{bytes_eq};
 ghost use Rattle.click_engine.specs.Devices.{element_with};
@@ -8,7 +8,7 @@ use click_scopes::Names;
 use std::alloc::{AllocError, Global};
 use std::marker::Model;
 
-/// The names of a net's elements, each once, with the place of the first element that has it.
+/// The flat names of a net's elements, each with the first element that has it.
 #[derive(Drop)]
 pub(crate) struct ElementNames {
     names: Names,
@@ -32,7 +32,7 @@ impl ElementNames {
     ghost use Rattle.click_engine.specs.Devices.{element_with};
     ghost use Rattle.click_engine.specs.kept.Tables.{FindsFirst};
 
-    /// The names of a net's elements.
+    /// Collects the flat names of a net's elements.
     pub(crate) fn of(alloc: Global, net: &Net) -> Result<ElementNames, AllocError>
         ensures { IfOk result (λ t. FindsFirst t net.now.names) }
     {
@@ -49,7 +49,7 @@ impl ElementNames {
         Ok(ElementNames { names, places })
     }
 
-    /// The place of the first element of that name.
+    /// Returns the index of the first element with that flat name.
     pub(crate) fn place(&self, name: &[u8]) -> Option<usize>
         ensures { result ≡ element_with self.now name.now }
     {

@@ -1,4 +1,4 @@
-//! An element's inputs that are asked in turn, with no frame for it.
+//! The inputs of an element that are asked one after another, without a frame for it.
 ghost use Rattle.std.specs.Prelude.{◌≡◌, ◌<◌};
 ghost use Rattle.click_classes.specs.Acts.{after};
 ghost use Rattle.click_engine.specs.Adjacency.{run_state_of, wiring_of};
@@ -12,8 +12,11 @@ use crate::transfer_stack::PullFrame;
 use crate::transfers::{PullResult, pull_over};
 use click_packet::Packet;
 
-/// An element that asked its input `back` last, and asks `count` more, from `input` on, round, up to the first packet. The numbers fit 16 bits; wider they are
-/// counted without being packed with others.
+/// An element that asks its inputs for a packet, one after another.
+///
+/// It asked its input `back` last, and asks up to `count` more, from `input` on and cyclically.
+///
+/// perf: the numbers fit in 16 bits. In whole words they are counted without unpacking.
 #[derive(Clone, Copy)]
 pub struct InputScan {
     pub at: usize,
@@ -23,7 +26,7 @@ pub struct InputScan {
     pub back: usize,
 }
 
-/// The frame of an element that goes on asking later.
+/// Returns the frame of an element that goes on asking later.
 pub(crate) fn waiting_frame(input_scan: InputScan) -> PullFrame
     requires { IsSmall input_scan }
     ensures { result ≡ Tries input_scan.at input_scan.inputs input_scan.count input_scan.input input_scan.back }
@@ -37,7 +40,7 @@ pub(crate) fn waiting_frame(input_scan: InputScan) -> PullFrame
     }
 }
 
-/// The input after this one, round.
+/// Returns the input after this one, cyclically.
 #[inline(always)]
 fn next_input(inputs: usize, input: usize) -> usize
     requires small { (inputs < 65536) × (input < 65536) }
@@ -47,7 +50,7 @@ fn next_input(inputs: usize, input: usize) -> usize
     if input + 1 < inputs { input + 1 } else { 0 }
 }
 
-/// One input more was asked.
+/// Advances the scan after an input was asked.
 #[inline(always)]
 pub(crate) fn move_on(input_scan: &mut InputScan)
     requires some { 0 < input_scan.old.count }
@@ -60,7 +63,8 @@ pub(crate) fn move_on(input_scan: &mut InputScan)
     input_scan.input = next_input(input_scan.inputs, input_scan.input);
 }
 
-/// Asks up to an input that answers, or that leads to an element which asks inputs of its own.
+/// Asks inputs until one answers, one leads to further inputs, or all `count` were asked. An answer
+/// is in `packet`.
 #[inline(always)]
 pub(crate) fn ask_until_answer(
     adjacency: &Adjacency,

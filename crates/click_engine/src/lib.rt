@@ -1,4 +1,5 @@
-//! The push and pull engine: packets go from element to element over a reserved stack (TOCS 2000, "Packet transfer").
+//! The push and pull engine, which moves packets from element to element (TOCS 2000, "Packet
+//! transfer"). It works over a stack whose memory is reserved beforehand.
 #![tactic(auto)]
 
 mod adjacency;

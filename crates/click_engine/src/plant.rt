@@ -1,4 +1,4 @@
-//! A plant: the elements of a net, and the runs of packets through them.
+//! A plant: the elements of a net, and the packet runs through them.
 ghost use Rattle.std.specs.Prelude.{◌≡◌, ℕ, ◌<◌, ◌≤◌, ◌+◌, IfOk, vec_len, length};
 ghost use Rattle.click_engine.specs.Plant.{elements_from};
 
@@ -18,10 +18,10 @@ use std::alloc::{AllocError, Global};
 use std::marker::Model;
 use std::mem;
 
-/// The most crossings of one run.
+/// The maximum number of crossings of one packet run.
 pub const CROSSINGS: usize = 1_024;
 
-/// The elements of a net with their connections.
+/// The runtime form of a net: its elements, their connections and devices, and a reserved stack.
 #[derive(Drop)]
 pub struct Plant {
     adjacency: Adjacency,
@@ -31,7 +31,9 @@ pub struct Plant {
     sinks: Devices,
     run_memory: RunMemory,
     transfer_stack: TransferStack,
-    /// Of each element, whether its output 0 leads straight to a Queue. A hint alone: either way means the same.
+    /// For each element, whether its output 0 is connected to a Queue.
+    ///
+    /// perf: a hint; it never changes the result.
     queues_ahead: Vec<bool>,
 }
 
@@ -57,7 +59,7 @@ impl Model for Plant {
         × All (IsTaskIn p.adjacency.shapes) p.tasks.items };
 }
 
-/// Elements of the net with these states.
+/// Returns the elements of the net with these states.
 fn elements_of(alloc: Global, net: &Net, states: Vec<State>) -> Result<Vec<Element>, AllocError>
     requires { vec_len states ≡ length net.now.shapes }
     ensures { IfOk result (λ elements. elements.items ≡ elements_from net.now 0 states.items) }
@@ -87,7 +89,10 @@ impl Plant {
     ghost use Rattle.click_engine.specs.kept.Tasks.{class_of_task, IsTaskIn, task_apart};
     ghost use Rattle.click_engine.specs.RunState.{blank};
 
-    /// The plant of a net whose elements begin with these states, one for each, in flat order. It takes all the memory that a run will need.
+    /// Builds the plant of a net whose elements begin with these states, one for each, in flat
+    /// order.
+    ///
+    /// Allocates all the memory that packet runs need.
     pub fn new(alloc: Global, net: Net, states: Vec<State>) -> Result<Plant, AllocError>
         requires { vec_len states ≡ length net.shapes }
         ensures { IfOk result (λ p. IsStarted net states.items p) }
@@ -117,35 +122,35 @@ impl Plant {
         })
     }
 
-    /// The net.
+    /// Returns the net.
     pub fn net(&self) -> &Net
         ensures { result.now ≡ self.now.net }
     {
         self.adjacency.net()
     }
 
-    /// The number of overruns.
+    /// Returns the number of overruns.
     pub fn overruns(&self) -> u64
         ensures { result ≡ self.now.overruns }
     {
         self.run_memory.overruns
     }
 
-    /// How many elements there are.
+    /// Returns the number of elements.
     pub fn len(&self) -> usize
         ensures { result ≡ length self.now.elements }
     {
         self.run_memory.elements.len()
     }
 
-    /// The place of the element with that flat name.
+    /// Returns the index of the element with that flat name.
     pub fn place(&self, name: &[u8]) -> Option<usize>
         ensures { result ≡ place_of self.now name.now }
     {
         self.names.place(name)
     }
 
-    /// The element at a place of flat order.
+    /// Returns the element with that index.
     pub fn element(&self, at: usize) -> &Element
         requires { at < length self.now.elements }
         ensures { result.now ≡ slice_index_or self.now.elements at result.now }
@@ -153,21 +158,22 @@ impl Plant {
         &self.run_memory.elements[at]
     }
 
-    /// Whether a FromDevice names the device.
+    /// Returns whether a FromDevice names the device.
     pub fn has_source(&self, device: &[u8]) -> bool
         ensures { IsTrue result ↔ IsSome (source_of self.now device.now) }
     {
         self.sources.element(device).is_some()
     }
 
-    /// Whether a ToDevice names the device.
+    /// Returns whether a ToDevice names the device.
     pub fn has_sink(&self, device: &[u8]) -> bool
         ensures { IsTrue result ↔ IsSome (sink_of self.now device.now) }
     {
         self.sinks.element(device).is_some()
     }
 
-    /// A packet enters from a device. `false`: nothing takes it.
+    /// Enters a packet of a device at its FromDevice. Returns false if the device has none; the
+    /// plant is unchanged then.
     pub fn enter(&mut self, device: &[u8], packet: &Packet) -> bool
         ensures plant { self.new ≡ arrive self.old device.now packet.now }
         ensures entered { IsTrue result ↔ IsSome (source_of self.old device.now) }
@@ -179,7 +185,9 @@ impl Plant {
         true
     }
 
-    /// The same where the device is none of the first, in a call of its own.
+    /// Does what `enter` does if the device is not among the first ones.
+    ///
+    /// perf: out of line.
     #[cold]
     #[inline(never)]
     fn enter_far(&mut self, device: &[u8], packet: &Packet) -> bool
@@ -193,7 +201,9 @@ impl Plant {
         true
     }
 
-    /// A packet leaves the element by its output 0. It is a call of its own, so that the search for the device stays small.
+    /// Pushes a packet at output 0 of the element, in a packet run of its own.
+    ///
+    /// perf: out of line, so that the search for the device stays small.
     #[inline(never)]
     fn enter_at(&mut self, at: usize, packet: &Packet)
         ensures { self.new ≡ emitted self.old at packet.now }
@@ -209,7 +219,8 @@ impl Plant {
         );
     }
 
-    /// What a device takes.
+    /// Pulls a packet at the ToDevice of a device. Returns `None` if the device has no ToDevice or
+    /// gets no packet.
     pub fn pull(&mut self, device: &[u8]) -> Option<Packet>
         ensures plant { self.new ≡ transmit self.old device.now }
         ensures packet { result ≡ transmitted self.old device.now }
@@ -225,7 +236,9 @@ impl Plant {
         self.transfer_stack.answer()
     }
 
-    /// Hands what a device takes to `f`, where it lies, and tells what `f` answers; None where the device gets none. The packet is not copied.
+    /// Does what `pull` does, but passes the packet to `f` without copying it.
+    ///
+    /// Returns the result of `f`. Returns `None`, and does not call `f`, if there is no packet.
     pub fn pull_with<R, F: FnOnce(&Packet) -> R>(&mut self, device: &[u8], f: F) -> Option<R>
         requires { F.IsAlwaysCallable f }
         ensures plant { self.new ≡ transmit self.old device.now }
@@ -243,7 +256,8 @@ impl Plant {
         Some(f(packet))
     }
 
-    /// Runs each task once in flat order, and tells how many packets sources gave and Unqueues and Discards pulled, at most 2^64 - 1.
+    /// Runs each task once, in flat order. Returns the number of packets that InfiniteSources
+    /// emitted and that Unqueues and Discards pulled, at most 2^64 - 1.
     pub fn round(&mut self) -> u64
         ensures plant { self.new ≡ (round self.old).plant }
         ensures packets { result ≡ min (round self.old).packets (2 ^ 64 - 1) }
@@ -256,8 +270,11 @@ impl Plant {
         packets
     }
 
-    /// Runs a task. One packet is pushed on right here, for each task by the same code, and nothing of the task is needed after it: so the loop over the tasks leaves a
-    /// push the registers that it needs.
+    /// Runs a task. Returns the number of packets that it emitted or pulled.
+    ///
+    /// perf: a single packet is pushed here, by the same code for each kind of task, after which
+    /// nothing of the task is needed. So the loop over the tasks leaves a push the registers that
+    /// it needs.
     #[inline(always)]
     fn run(&mut self, task: Task) -> u64
         requires { IsTaskIn self.old.net.shapes task }
@@ -283,7 +300,10 @@ impl Plant {
         1
     }
 
-    /// Runs a task that gives more than one packet, or none: of a source with another burst, or of a Discard, which pulls.
+    /// Runs a task for which `take_one` returned false.
+    ///
+    /// It is an InfiniteSource with nothing to emit or with a burst other than one, a Discard, or
+    /// an Unqueue that got no packet.
     #[inline(never)]
     fn run_apart(&mut self, task: Task) -> u64
         ensures plant { self.new ≡ (task_apart (class_of_task task.kind) self.old task.at).plant }
@@ -296,7 +316,7 @@ impl Plant {
         }
     }
 
-    /// Up to a burst of a source's packets.
+    /// Emits packets of an InfiniteSource, up to its burst. Returns their number.
     fn emit_burst(&mut self, at: usize) -> u64
         ensures plant { self.new ≡ (bursts (burst_of (state_at self.old at)) at self.old).plant }
         ensures packets { result ≡ (bursts (burst_of (state_at self.old at)) at self.old).packets }
@@ -312,7 +332,7 @@ impl Plant {
         packets
     }
 
-    /// One packet of a source.
+    /// Emits one packet of an InfiniteSource. Returns false if it has none left.
     fn emit(&mut self, at: usize) -> bool
         ensures { MatchOption (emission (state_at self.old at)) ((result ≡ false) × (self.new ≡ self.old))
             (λ e. (result ≡ true) × (self.new ≡ sourced self.old at e)) }
@@ -346,7 +366,8 @@ impl Plant {
         u64::from(answered)
     }
 
-    /// Hands the element at a place of flat order to `f`, and keeps the one that it answers.
+    /// Passes the element with that index to `f`, and stores the one that `f` returns. Returns what
+    /// else `f` returns.
     pub fn change<R, F: FnOnce(Element) -> (Element, R)>(&mut self, at: usize, f: F) -> R
         requires place { at < length self.old.elements }
         requires callable { F.pre f (slice_index_or self.old.elements at blank) }
@@ -365,9 +386,12 @@ impl Plant {
         answer
     }
 
-    /// Takes over from the plant of the configuration before: each Queue and FrontDropQueue takes the packets of the element there that has its flat name and
-    /// its class, the first that it has room for; each Counter that one's counts; each Switch that one's position, where that is -1 or one of its own outputs; and
-    /// the number of overruns goes on. It takes no memory.
+    /// Takes over from the plant of the old configuration. Allocates nothing.
+    ///
+    /// Each element takes over from the element with its flat name and class. A Queue or
+    /// FrontDropQueue takes the first packets, as many as it has room for, and a Counter the
+    /// counts. A Switch takes the position if it is -1 or one of its own outputs. The number of
+    /// overruns is taken over too.
     pub fn take_over(&mut self, old: &mut Plant)
         ensures { self.new ≡ taken self.old old.old }
     {
@@ -377,7 +401,9 @@ impl Plant {
         self.run_memory.overruns = old.run_memory.overruns;
     }
 
-    /// The element at a place takes over from the one of its name. That one is needed again only where an element before this place has the name too.
+    /// Makes the element with that index take over from the one of its flat name.
+    ///
+    /// The old element has to keep its state only if an earlier element has the same name.
     fn take_over_at(&mut self, at: usize, old: &mut Plant)
         requires { at < length self.old.net.names }
         ensures taken { self.new ≡ taken_at self.old old.old at }

@@ -1,4 +1,4 @@
-//! What a run works on.
+//! The state that a packet run changes, and what one element does in it.
 ghost use Rattle.std.specs.Prelude.{◌≡◌, ℕ, ◌<◌, ◌≤◌, length, MatchOption, IfSome, None, Some, true, false};
 ghost use Rattle.click_engine.specs.kept.Transfers.{ActsIn};
 ghost use Rattle.click_classes.specs.Acts.{act, burst_of, tries, stored, gives};
@@ -8,15 +8,15 @@ use click_base::Class;
 use click_classes::{PortRange, PullOutcome, State};
 use click_packet::Packet;
 
-/// One end of a connection: an element by its place in flat order, and one of its inputs or outputs.
+/// One end of a connection: the index of an element, and one of its inputs or outputs.
 #[derive(Clone, Copy)]
 pub struct ConnectionEnd {
-    // (in this order a look-up needs no further register)
+    // perf: in this order a look-up needs no further register.
     pub port: u16,
     pub element: usize,
 }
 
-/// An element as handlers see it: its class, how many ports it has, and its state.
+/// An element as handlers see it: its class, its numbers of inputs and outputs, and its state.
 #[derive(Drop)]
 pub struct Element {
     pub class: Class,
@@ -25,7 +25,7 @@ pub struct Element {
     pub state: State,
 }
 
-/// What a run changes: the elements, the crossings left and the overruns.
+/// The state that a packet run changes: the elements, the crossings left and the overruns.
 #[derive(Drop)]
 pub struct RunMemory {
     pub elements: Vec<Element>,
@@ -33,7 +33,8 @@ pub struct RunMemory {
     pub overruns: u64,
 }
 
-/// What an element does with a packet that is pushed into it; past all elements nothing is done.
+/// Makes element `at` do what its class does with a packet that is pushed into `input`. Returns the
+/// outputs that get the packet next. Does nothing if no element has that index.
 #[inline(always)]
 pub(crate) fn act_at(
     elements: &mut [Element],
@@ -52,7 +53,8 @@ pub(crate) fn act_at(
     }
 }
 
-/// How many packets a source gives in one run of its task; 0 in a state of another class.
+/// Returns the number of packets that the task of an InfiniteSource emits at most. Returns 0 for a
+/// state of another class.
 #[inline(always)]
 fn burst_of(state: &State) -> u8
     ensures { result ≡ burst_of state.now }
@@ -90,7 +92,8 @@ impl RunMemory {
         act_at(self.elements.as_mut_slice(), at, input, packet)
     }
 
-    /// Stores a packet that is pushed into a Queue, which reads it where it lies; false, and without change, where no Queue is.
+    /// Stores a copy of `packet` if element `at` is a Queue. Returns false, and changes nothing, if
+    /// it is not.
     #[inline(always)]
     pub(crate) fn store(&mut self, at: usize, packet: &Packet) -> bool
         ensures left { self.new.left ≡ self.old.left }
@@ -105,7 +108,8 @@ impl RunMemory {
         }
     }
 
-    /// What a pull at an output leads to: what the element has stored, which `packet` becomes, or the inputs that it asks.
+    /// Returns the result of a pull at the output `far`. It is the packet that the element has
+    /// stored, which is in `packet` then, or the inputs that the element asks.
     #[inline(always)]
     pub(crate) fn reach(&mut self, far: ConnectionEnd, packet: &mut Packet) -> PullResult
         ensures { ReachesIn (run_state_of self.old) (run_state_of self.new) far packet.new result }
@@ -134,7 +138,8 @@ impl RunMemory {
         }
     }
 
-    /// How many packets a source gives in one run of its task; 0 for other elements.
+    /// Returns the number of packets that the task of element `at` emits at most. Returns 0 if it
+    /// is not an InfiniteSource.
     #[inline(always)]
     pub(crate) fn burst(&self, at: usize) -> u8
         ensures { result ≡ burst_of (element_at (run_state_of self.now) at).state }
@@ -145,8 +150,8 @@ impl RunMemory {
         }
     }
 
-    /// A run of a source's task begins: makes `packet` the first that it gives, and tells how many packets one run gives at most; 0, and without change, where it
-    /// gives none.
+    /// Makes `packet` the first one that an InfiniteSource emits in its task. Returns the source's
+    /// burst, or 0, and changes nothing, if it emits none.
     #[inline(always)]
     pub(crate) fn emit_first(&mut self, at: usize, packet: &mut Packet) -> u8
         ensures left { self.new.left ≡ self.old.left }
@@ -160,7 +165,8 @@ impl RunMemory {
         }
     }
 
-    /// Makes `packet` the one that a source gives next; false, and without change, where there is none.
+    /// Makes `packet` the next one that an InfiniteSource emits. Returns false, and changes
+    /// nothing, if it emits none.
     pub(crate) fn emit(&mut self, at: usize, packet: &mut Packet) -> bool
         ensures left { self.new.left ≡ self.old.left }
         ensures emitted { MatchOption (emission (element_at (run_state_of self.old) at).state)

@@ -1,4 +1,4 @@
-//! The slots of a transfer stack.
+//! The slots of a transfer stack: `PushFrame` values that are written in place and used again.
 ghost use Rattle.std.specs.Prelude.{◌≡◌, ℕ, ◌+◌, ◌<◌, ◌≤◌, List, length, take, vec_len, vec_capacity};
 ghost use Rattle.click_engine.specs.kept.Slots.{CopiedUp};
 ghost use Rattle.click_engine.specs.declared.transfer_stack.PullFrame.TheVariants.{Tries};
@@ -6,7 +6,7 @@ ghost use Rattle.click_engine.specs.declared.transfer_stack.PullFrame.TheVariant
 use crate::transfer_stack::{PullFrame, PushFrame};
 use crate::transfers::PullResult;
 
-/// The inputs that a reply names are to be asked.
+/// Returns the frame of an element that is about to ask the inputs which `pull_result` names.
 pub(crate) fn tries(pull_result: PullResult) -> PullFrame
     ensures { result ≡ Tries pull_result.at pull_result.inputs pull_result.count pull_result.first 0 }
 {
@@ -19,7 +19,7 @@ pub(crate) fn tries(pull_result: PullResult) -> PullFrame
     }
 }
 
-/// Makes the packet above `top` equal to the one at `top`.
+/// Copies the packet of slot `top` into the slot above it, which is made if it does not exist yet.
 #[inline(always)]
 pub(crate) fn copy_up(push_frames: &mut Vec<PushFrame>, top: usize)
     requires top { top < vec_len push_frames.old }
@@ -34,7 +34,7 @@ pub(crate) fn copy_up(push_frames: &mut Vec<PushFrame>, top: usize)
     }
 }
 
-/// Makes a slot above `top`, the first time that one is needed there.
+/// Makes the slot above `top` if it does not exist yet.
 #[inline(always)]
 pub(crate) fn make_above(push_frames: &mut Vec<PushFrame>, top: usize)
     requires top { top < vec_len push_frames.old }
@@ -48,7 +48,7 @@ pub(crate) fn make_above(push_frames: &mut Vec<PushFrame>, top: usize)
     }
 }
 
-/// Makes a slot, the first time that one is needed there.
+/// Makes the slot above `top`, which is the last one, with a copy of its packet.
 #[cold]
 #[inline(never)]
 fn push_copy(push_frames: &mut Vec<PushFrame>, top: usize)

@@ -1,4 +1,4 @@
-//! Which elements have something to do in each round.
+//! The elements that have a task, which runs once in each round.
 ghost use Rattle.std.specs.Prelude.{◌≡◌, All, IfOk, MatchOption};
 ghost use Rattle.click_engine.specs.kept.Tasks.{class_of_task, places_of, IsTaskIn};
 ghost use Rattle.click_engine.specs.Tasks.{AreTasks, HasTask};
@@ -8,7 +8,9 @@ use click_classes::Side;
 use click_ports::Net;
 use std::alloc::{AllocError, Global};
 
-/// What a task does: it is that of the class of this name. A task knows it, so that a round tells three kinds apart and not thirty classes.
+/// The class of an element with a task, which says what the task does.
+///
+/// perf: stored in the task, so that a round distinguishes three kinds and not thirty classes.
 #[derive(Clone, Copy)]
 pub enum TaskKind {
     InfiniteSource,
@@ -16,14 +18,14 @@ pub enum TaskKind {
     Discard,
 }
 
-/// The task of an element: its place in flat order, and what it does.
+/// The task of an element: the element's index and its kind.
 #[derive(Clone, Copy)]
 pub struct Task {
     pub at: usize,
     pub kind: TaskKind,
 }
 
-/// The task of the element of that class, if it has one.
+/// Returns the kind of the element's task. Returns `None` if it has no task.
 fn kind_of(net: &Net, at: usize, class: Class) -> Option<TaskKind>
     ensures { MatchOption result (HasTask net.now at class → ⊥) (λ kind. HasTask net.now at class × (class_of_task kind ≡ class)) }
 {
@@ -35,7 +37,7 @@ fn kind_of(net: &Net, at: usize, class: Class) -> Option<TaskKind>
     }
 }
 
-/// The tasks of a net's elements.
+/// Returns the tasks of a net's elements, in flat order.
 pub(crate) fn tasks_of(alloc: Global, net: &Net) -> Result<Vec<Task>, AllocError>
     ensures places { IfOk result (λ tasks. AreTasks net.now 0 net.now.shapes (places_of tasks.items)) }
     ensures classes { IfOk result (λ tasks. All (IsTaskIn net.now.shapes) tasks.items) }

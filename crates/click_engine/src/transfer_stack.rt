@@ -1,4 +1,4 @@
-//! The pushes and pulls of a run that are under way: frames whose slots are written in place.
+//! The stack of the pushes and pulls in progress: frames whose slots are written in place.
 ghost use Rattle.std.specs.Prelude.{◌≡◌, ℕ, ◌+◌, ◌-◌, ◌<◌, ◌≤◌, ◌^◌, List, [], ◌∷◌, ◌++◌, length};
 
 use crate::adjacency::Adjacency;
@@ -11,7 +11,9 @@ use click_packet::Packet;
 use std::alloc::{AllocError, Global};
 use std::marker::Model;
 
-/// The outputs of an element that are still to get a packet.
+/// A push in progress: a packet, and the outputs of element `at` that still get it.
+///
+/// These are `count` outputs, from `first` on.
 #[derive(Drop)]
 pub struct PushFrame {
     pub first: usize,
@@ -21,15 +23,15 @@ pub struct PushFrame {
     ghost small: { first + count < 2 ^ 32 },
 }
 
-/// A pull that waits for its answer.
+/// A pull in progress.
 #[derive(Clone, Copy)]
 pub enum PullFrame {
-    /// An input is still to be asked, and what it gives is the answer.
+    /// Input `input` of element `at` is still to be asked; its answer is the answer of this pull.
     Pull {
         at: usize,
         input: usize,
     },
-    /// An element asked its input `back` last, and `count` more wait, from `input` on.
+    /// Element `at` asked its input `back` last, and has `count` more to ask, from `input` on.
     Tries {
         at: usize,
         inputs: u16,
@@ -39,7 +41,10 @@ pub enum PullFrame {
     },
 }
 
-/// Frames with their room. The pushes stand above the pulls, and an answer lies in the first push's slot.
+/// The frames of a packet run, with room for a fixed number of them.
+///
+/// Pushes lie above pulls. The answer of a pull is in slot 0 of `push_frames`. The first `sending`
+/// slots are frames; those after them are only memory to use again.
 #[derive(Drop)]
 pub struct TransferStack {
     push_frames: Vec<PushFrame>,
@@ -76,7 +81,7 @@ impl TransferStack {
     ghost use Rattle.click_classes.specs.Acts.{burst_of, emission};
     ghost use Rattle.std.specs.Prelude.{MatchOption};
 
-    /// No frames, with room for so many.
+    /// Reserves a stack without frames that has room for `room` of them.
     pub fn with_room(alloc: Global, room: usize) -> Result<TransferStack, AllocError>
         requires { room < 2 ^ 62 }
         ensures { IfOk result (λ m. m ≡ record { frames = []; last = None; room = room }) }
@@ -97,14 +102,14 @@ impl TransferStack {
         })
     }
 
-    /// Whether a push is on top.
+    /// Returns whether the topmost frame is a push.
     pub(crate) fn is_sending(&self) -> bool
         ensures { result ≡ sends_first self.now.frames }
     {
         self.sending > 0
     }
 
-    /// Whether there is no frame.
+    /// Returns whether no frame is left.
     pub(crate) fn is_done(&self) -> bool
         ensures { IsTrue result ↔ (self.now.frames ≡ []) }
     {
@@ -114,7 +119,7 @@ impl TransferStack {
         self.asks.is_empty()
     }
 
-    /// The last pull's answer.
+    /// Returns a copy of the last pull's answer.
     pub(crate) fn answer(&self) -> Option<Packet>
         ensures { result ≡ self.now.last }
     {
@@ -125,7 +130,7 @@ impl TransferStack {
         }
     }
 
-    /// The last pull's answer, where it lies.
+    /// Borrows the last pull's answer.
     pub(crate) fn lent_answer(&self) -> Option<&Packet>
         ensures { option_map (λ p. p.now) result ≡ self.now.last }
     {
@@ -136,14 +141,14 @@ impl TransferStack {
         }
     }
 
-    /// Whether the last pull was answered.
+    /// Returns whether the last pull was answered.
     pub(crate) fn is_answered(&self) -> bool
         ensures { IsTrue result ↔ IsSome self.now.last }
     {
         self.answered
     }
 
-    /// Makes `packet` the last pull's answer.
+    /// Copies `packet` into the answer slot, from which `push_answer` pushes it.
     #[inline(always)]
     pub(crate) fn set_answer(&mut self, packet: &Packet)
         requires { self.old.frames ≡ [] }
@@ -153,8 +158,10 @@ impl TransferStack {
         self.answered = true;
     }
 
-    /// Begins with a push of the last pull's answer at output 0 of an element, and pushes it on as far as no copy has several ways to go. Whether frames may be left.
-    /// `apart`: it is pushed in a call of its own.
+    /// Pushes the packet in the answer slot at output 0 of element `at`. Follows the push while
+    /// exactly one output gets it. Returns whether a frame may be left; if not, it is complete.
+    ///
+    /// perf: if `apart` is true, the push is an out-of-line call.
     #[inline(always)]
     pub(crate) fn push_answer(
         &mut self,
@@ -184,8 +191,11 @@ impl TransferStack {
         several
     }
 
-    /// Begins with a pull at input 0 of an element, and asks at once what that leads to: mostly a queue is there, and nothing is left to do. Whether it was answered,
-    /// if that is all. `apart`: inputs of an element that it leads to are asked in a call of its own, which is for callers that find a queue there.
+    /// Pulls at input 0 of element `at`, and asks the inputs that this leads to. Returns whether
+    /// the pull was answered, if it is complete; `None` if frames may be left.
+    ///
+    /// perf: most pulls end at a queue at once. `apart` makes the asking of inputs an out-of-line
+    /// call, for callers that usually find a queue.
     #[inline(always)]
     pub(crate) fn start_pull(
         &mut self,
@@ -223,8 +233,11 @@ impl TransferStack {
         Some(self.is_answered())
     }
 
-    /// Asks inputs of an element that a pull led to, of which there are some. Only an element further on that asks inputs of its own takes frames. Whether frames may
-    /// be left.
+    /// Asks `count` inputs of element `at`, from `first` on, to which a pull led. Returns whether
+    /// frames may be left.
+    ///
+    /// Makes frames only for an element further on that asks inputs of its own, and for an answer
+    /// that is also pushed at outputs.
     #[inline(always)]
     fn ask_inputs(
         &mut self,
@@ -281,7 +294,7 @@ impl TransferStack {
         false
     }
 
-    /// The same as a call of its own.
+    /// Does what `ask_inputs` does, out of line.
     #[inline(never)]
     fn ask_inputs_apart(
         &mut self,
@@ -301,8 +314,10 @@ impl TransferStack {
         let _waits = self.ask_inputs(adjacency, run_memory, at, inputs, count, first);
     }
 
-    /// The answer becomes the first packet that a source gives in a run of its task, and how many packets one run gives at most is told; 0, and there is no answer,
-    /// where it gives none.
+    /// Puts the first packet that an InfiniteSource emits in its task into the answer slot.
+    ///
+    /// Returns the source's burst: the maximum number of packets that its task emits. Returns 0 if
+    /// it emits none; the slot has no answer then.
     #[inline(always)]
     pub(crate) fn take_first_emission(&mut self, run_memory: &mut RunMemory, at: usize) -> u8
         requires done { self.old.frames ≡ [] }
@@ -318,7 +333,8 @@ impl TransferStack {
         most
     }
 
-    /// The answer becomes the packet that a source gives next; false, and there is none, where it gives none.
+    /// Makes the next packet of an InfiniteSource the last pull's answer. Returns false if it emits
+    /// none; there is no answer then.
     pub(crate) fn take_emission(&mut self, run_memory: &mut RunMemory, at: usize) -> bool
         requires done { self.old.frames ≡ [] }
         ensures left { run_memory.new.left ≡ run_memory.old.left }
@@ -332,7 +348,10 @@ impl TransferStack {
         self.answered
     }
 
-    /// Pushes on where a push is on top, as far as no copy has several ways to go. It goes into its callers, which know mostly what is on top.
+    /// Pushes the topmost packet on, and copies of it, up to a copy that several outputs get. Does
+    /// nothing if no push is on top.
+    ///
+    /// perf: inline, because most callers know what is on top.
     #[inline(always)]
     pub(crate) fn run_pushes(&mut self, adjacency: &Adjacency, run_memory: &mut RunMemory)
         requires room { length self.old.frames + run_memory.old.left ≤ self.old.room }
@@ -353,7 +372,10 @@ impl TransferStack {
         self.push_last(adjacency, run_memory);
     }
 
-    /// Pushes copies where a push is on top that has several outputs left, up to a copy that several are to get, or to the last output.
+    /// Pushes copies of the topmost packet at all outputs that still get it, except the last.
+    ///
+    /// Stops early at a copy that several outputs are to get. Does nothing if no push is on top or
+    /// fewer than two outputs are left.
     #[inline(always)]
     fn push_copies(&mut self, adjacency: &Adjacency, run_memory: &mut RunMemory)
         requires room { length self.old.frames + run_memory.old.left ≤ self.old.room }
@@ -373,7 +395,9 @@ impl TransferStack {
         }
     }
 
-    /// Pushes on where a push is on top that has one output left, up to an element with several or none.
+    /// Pushes the topmost packet on while exactly one output gets it.
+    ///
+    /// Does nothing if no push is on top, several outputs are left, or an answer is in the slot.
     #[inline(always)]
     fn push_last(&mut self, adjacency: &Adjacency, run_memory: &mut RunMemory)
         requires room { length self.old.frames + run_memory.old.left ≤ self.old.room }
@@ -383,7 +407,7 @@ impl TransferStack {
             return;
         }
         let top = self.sending - 1;
-        // The first slot is not free where an answer lies in it.
+        // An answer lies in slot 0, so that slot must not be overwritten.
         if top == 0 && self.answered {
             return;
         }
@@ -397,7 +421,7 @@ impl TransferStack {
         }
     }
 
-    /// One turn where a push is on top.
+    /// Makes one engine turn if a push is on top.
     pub(crate) fn turn_push(&mut self, adjacency: &Adjacency, run_memory: &mut RunMemory)
         requires some { sends_first self.old.frames ≡ true }
         requires room { length self.old.frames + run_memory.old.left ≤ self.old.room }
@@ -408,7 +432,7 @@ impl TransferStack {
         let at = push_frame.at;
         let output = push_frame.first;
         if push_frame.count == 1 && (!self.answered || top > 0) {
-            // The last output takes the slot itself.
+            // The last output takes the packet in its slot, without a copy.
             push_over(adjacency, run_memory, at, output, push_frame);
             if push_frame.count > 0 {
                 return;
@@ -429,7 +453,7 @@ impl TransferStack {
             self.sending = top + 2;
         }
     }
-    /// One turn where no push is on top.
+    /// Makes one engine turn if no push is on top.
     pub(crate) fn turn_pull(&mut self, adjacency: &Adjacency, run_memory: &mut RunMemory)
         requires none { sends_first self.old.frames ≡ false }
         requires some { 0 < length self.old.frames }
@@ -466,7 +490,8 @@ impl TransferStack {
         }
     }
 
-    /// The same where the pull on top has yet to ask its input: what that leads to takes its place, or it ends.
+    /// Makes one engine turn if the topmost pull has not asked its input yet. The frame that this
+    /// leads to replaces the pull, or the pull ends.
     #[inline(always)]
     fn turn_waiting(
         &mut self,
@@ -490,7 +515,8 @@ impl TransferStack {
         }
     }
 
-    /// The same where the element on top got a packet from the input that it asked last: it is over with what it makes of that.
+    /// Makes one engine turn if the topmost element got a packet from the input that it asked last.
+    /// Its frame ends, with what the element makes of the packet.
     #[inline(always)]
     fn turn_answered(&mut self, run_memory: &mut RunMemory, input_scan: InputScan)
         requires top { take 1 self.old.frames ≡ asks_now input_scan ∷ [] }
@@ -516,7 +542,10 @@ impl TransferStack {
         }
     }
 
-    /// The same where the element on top got nothing from the input that it asked last, and has another: what that leads to stands above it.
+    /// Makes one engine turn if the topmost element asks a further input.
+    ///
+    /// It got no packet from the input that it asked last. The frame that the further input leads
+    /// to is placed above it.
     #[inline(always)]
     fn turn_asking(
         &mut self,

@@ -1,4 +1,7 @@
-//! One push or pull over a connection.
+//! Transfers of a packet over connections: pushes and pulls.
+//!
+//! Each transfer spends one crossing. If no crossing is left, a push drops its packet and a pull
+//! returns no answer, and either is counted as an overrun.
 ghost use Rattle.std.specs.Prelude.{◌≡◌, ℕ, ◌+◌, ◌<◌, ◌⊎◌, ◌≤◌, ◌^◌, length, vec_len, nat_lt, MatchOption, IfSome, None, Some, true, false};
 ghost use Rattle.click_engine.specs.Run.{push};
 ghost use Rattle.click_engine.specs.RunState.{Wiring};
@@ -13,17 +16,20 @@ use click_base::Class;
 use click_packet::Packet;
 use std::alloc::{AllocError, Global};
 
-/// What a pull led to: an answer, or inputs of an element that are asked in turn.
+/// The result of a pull over one connection: an answer, or inputs of an element to ask in turn.
 #[derive(Clone, Copy)]
 pub struct PullResult {
+    /// Whether the pull is answered.
     pub held: bool,
+    /// The element whose inputs are to be asked, and the number of its inputs.
     pub at: usize,
     pub inputs: u16,
+    /// The number of inputs to ask, from `first` on; 0 if there is no answer.
     pub count: u16,
     pub first: u16,
 }
 
-/// An answer.
+/// The pull is answered.
 pub(crate) const HELD: PullResult = PullResult {
     held: true,
     at: 0,
@@ -32,7 +38,7 @@ pub(crate) const HELD: PullResult = PullResult {
     first: 0,
 };
 
-/// No answer, and nobody else to ask.
+/// There is no answer, and no input is left to ask.
 pub(crate) const NO_ANSWER: PullResult = PullResult {
     held: false,
     at: 0,
@@ -41,7 +47,10 @@ pub(crate) const NO_ANSWER: PullResult = PullResult {
     first: 0,
 };
 
-/// Pushes the packet of `push_frame` into an input, and leaves in `push_frame` what goes on from there.
+/// Pushes the packet of `push_frame` into the input `far`.
+///
+/// Leaves in `push_frame` the packet as the element passes it on, and the outputs that get it next.
+/// Their `count` is 0 if the packet ends there or no crossing is left.
 #[inline(always)]
 fn push_into(run_memory: &mut RunMemory, far: ConnectionEnd, push_frame: &mut PushFrame)
     ensures { (net : Wiring) (at output : ℕ) → far ≡ far_of (net.target at output)
@@ -59,7 +68,8 @@ fn push_into(run_memory: &mut RunMemory, far: ConnectionEnd, push_frame: &mut Pu
     push_frame.count = outputs.count as usize;
 }
 
-/// The same over the connection at an output.
+/// Pushes the packet of `push_frame` over the connection at an output of element `at`. Leaves in
+/// `push_frame` what `push_into` does.
 #[inline(always)]
 pub(crate) fn push_over(
     adjacency: &Adjacency,
@@ -73,7 +83,9 @@ pub(crate) fn push_over(
     push_into(run_memory, adjacency.target(at, output), push_frame);
 }
 
-/// The input that a push at an output goes to, of an element that is in the table of first outputs.
+/// Returns the input that an output of element `at` is connected to.
+///
+/// perf: for output 0 it is in `places` and `ports`, the table of first outputs.
 #[inline(always)]
 fn far_from(
     adjacency: &Adjacency,
@@ -97,9 +109,13 @@ fn far_from(
     }
 }
 
-/// Pushes the packet of `push_frame` into an input, and on while just one output is to get it, by as many crossings as are left. Whether these were enough. The tables
-/// that a step needs stay in locals, and the crossings left where they are kept, so that a step counts them there by one instruction. Where the next step leads is
-/// looked up at the end of this one, with the output as the class gives it: most classes have one output, so that from there on nothing is to be tested.
+/// Pushes the packet of `push_frame` into the input `first`, and on while exactly one output gets
+/// it. Returns false if it runs out of crossings; the packet is dropped then, and the caller counts
+/// the overrun.
+///
+/// perf: the tables stay in locals, and `left` is counted down in memory by one instruction. The
+/// next input is looked up at the end of a step, where the output is a constant for most classes,
+/// so that the test for output 0 disappears.
 #[inline(always)]
 fn push_on(
     adjacency: &Adjacency,
@@ -137,7 +153,10 @@ fn push_on(
     false
 }
 
-/// The same step by step, whatever elements there are.
+/// Does what `push_fast` does, without its precondition and one step at a time.
+///
+/// proof: no plant has more elements than its net, so this is never called. The types of this
+/// module do not say so.
 #[cold]
 #[inline(never)]
 fn push_slowly(
@@ -159,7 +178,10 @@ fn push_slowly(
     push_frame.count > 0
 }
 
-/// The same of a plant that has no more elements than its net, as each has. Whether several outputs are then to get the packet.
+/// Pushes the packet of `push_frame` into the input `first`, and on while exactly one output gets
+/// it. Returns whether several outputs get it next.
+///
+/// Requires no more elements than the net has, which holds for every plant.
 #[inline(always)]
 fn push_fast(
     adjacency: &Adjacency,
@@ -181,7 +203,9 @@ fn push_fast(
     false
 }
 
-/// The same as a call of its own: what a step needs stays in registers, whatever its caller keeps there.
+/// Does what `push_fast` does, out of line.
+///
+/// perf: the loop keeps its values in registers, whatever its caller keeps there.
 #[inline(never)]
 fn push_fast_apart(
     adjacency: &Adjacency,
@@ -198,8 +222,10 @@ fn push_fast_apart(
     push_fast(adjacency, run_memory, push_frame, first)
 }
 
-/// Pushes the packet of `push_frame` into an input, and on while just one output is to get it. Whether several are then to get it. `apart`: in a call of its own, which
-/// is for callers that have more to keep in registers than a call costs.
+/// Pushes the packet of `push_frame` into the input `first`, and on while exactly one output gets
+/// it. Returns whether several outputs get it next.
+///
+/// perf: `apart` makes the loop an out-of-line call, for callers under register pressure.
 #[inline(always)]
 pub(crate) fn push_slot(
     adjacency: &Adjacency,
@@ -222,7 +248,7 @@ pub(crate) fn push_slot(
     push_fast(adjacency, run_memory, push_frame, first)
 }
 
-/// Pushes the packet of `push_frame` on while just one output is to get it.
+/// Pushes the packet of `push_frame` on while exactly one output gets it.
 #[inline(always)]
 pub(crate) fn push_along(
     adjacency: &Adjacency,
@@ -240,7 +266,10 @@ pub(crate) fn push_along(
     }
 }
 
-/// The same for the packet of `push_frame` into an input. Its first step is made here: mostly a copy ends with it.
+/// Pushes a copy into the input `far`, and on while exactly one output gets it. The copy is the
+/// packet of `push_frame`.
+///
+/// perf: the first step is inline, because most copies end with it.
 #[inline(always)]
 pub(crate) fn push_copy(
     adjacency: &Adjacency,
@@ -256,7 +285,8 @@ pub(crate) fn push_copy(
     push_along(adjacency, run_memory, push_frame);
 }
 
-/// Pulls over the connection at an input. Where it is answered, `packet` is the answer.
+/// Pulls over the connection at an input of element `at`. If the pull is answered at once, the
+/// answer is in `packet`.
 #[inline(always)]
 pub(crate) fn pull_over(
     adjacency: &Adjacency,
@@ -278,7 +308,9 @@ pub(crate) fn pull_over(
     }
 }
 
-/// The same at the first input, which is found in a table of its own.
+/// Does what `pull_over` does, at input 0.
+///
+/// perf: the source of each first input is in a table of its own.
 #[inline(always)]
 pub(crate) fn pull_first(
     adjacency: &Adjacency,
@@ -296,8 +328,10 @@ pub(crate) fn pull_first(
     run_memory.reach(adjacency.first_source(at), packet)
 }
 
-/// For each element, whether its output 0 leads straight to a Queue: only there is `store_at` worth a try. Nothing is proved of it, since a push comes to the same with
-/// a try and without.
+/// Returns for each element whether its output 0 is connected to a Queue.
+///
+/// perf: only there is `store_at` worth an attempt. This is a hint: it never changes the result of
+/// a push, so it has no contract.
 pub(crate) fn queues_ahead(
     alloc: Global,
     adjacency: &Adjacency,
@@ -314,8 +348,11 @@ pub(crate) fn queues_ahead(
     Ok(queues_ahead)
 }
 
-/// Stores a packet that is pushed at output 0 of an element into a Queue, which reads it where it lies; false, and without change, where no Queue is, or no crossing
-/// left. `queue_ahead`: whether a Queue is looked for.
+/// Stores a packet that is pushed at output 0 of element `at`, if a Queue is connected there.
+/// Returns false, and changes nothing, if there is no Queue or no crossing is left.
+///
+/// perf: the packet is copied straight into the queue, not into a slot first. `queue_ahead` is the
+/// hint of `queues_ahead`; if it is false, no attempt is made.
 #[inline(always)]
 pub(crate) fn store_at(
     adjacency: &Adjacency,

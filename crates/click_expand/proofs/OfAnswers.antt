@@ -1,5 +1,6 @@
--- From the tables of a sound configuration to its answer: its flat form, or a passed limit (`FormOrFault`, `FlatForms`), the first element that is
--- refused (`FirstRefusal`), and the token that is named for it (`Tokens`).
+-- From the tables of a sound configuration to its result: its flat form, or a passed limit
+-- (`FormOrFault`, `FlatForms`). Also the first element that is refused (`FirstRefusal`), and the
+-- token that its fault names (`Tokens`).
 pub mod FirstRefusal
 pub mod FlatForms
 pub mod FormOrFault

@@ -1,6 +1,8 @@
--- The connections of flat elements: those of a scope by the ports that they begin at (`PortEquality`, `ConnectionIndex`), the search over them
--- (`ConnectionOrder`, `PortSearch`, `OutputSearches`), inputs that only lead through a body (`PassthroughSearch`, `ShortcutLists`, `PortStandIns`,
--- `ShortcutIndices`), and why what is found are the connections as written (`Chains`, `SearchSteps`, `NestedInstances`, `Shortcuts`, `FlatConnections`).
+-- The connections between flat elements. The connections of a scope are indexed by their source
+-- ports (`PortEquality`, `ConnectionIndex`), and searched (`ConnectionOrder`, `PortSearch`,
+-- `OutputSearches`). Pass-through inputs are in `PassthroughSearch`, `ShortcutLists`,
+-- `PortStandIns` and `ShortcutIndices`. That the connections found are the written ones is in
+-- `Chains`, `SearchSteps`, `NestedInstances`, `Shortcuts` and `FlatConnections`.
 pub mod Chains
 pub mod ConnectionIndex
 pub mod ConnectionOrder

@@ -1,6 +1,7 @@
--- The text of a flat form reads back as it (`ReadBackLaw`): its names are words (`NameWords`, `ClassWords`, `WellFormedTokens`, `WellFormedFlat`),
--- its lines are statements (`TextPieces`, `TextTokens`, `Lines`), and these make one scope with the same flat form (`LineScope`, `LineSoundness`,
--- `TextItems`, `LineFlatForm`).
+-- The text of a flat form reads back as that flat form (`ReadBackLaw`). Its names are words
+-- (`NameWords`, `ClassWords`, `WellFormedTokens`, `WellFormedFlat`), and its lines are statements
+-- (`TextPieces`, `TextTokens`, `Lines`). These make one scope with the same flat form (`LineScope`,
+-- `LineSoundness`, `TextItems`, `LineFlatForm`).
 pub mod ClassWords
 pub mod LineFlatForm
 pub mod LineScope

@@ -1,5 +1,6 @@
--- The instances of scopes: the walk that makes them (`LexicalParents`, `InstanceParts`, `Frames`, `WalkEntry`, `WalkExit`, `WalkSteps`), the elements of a
--- scope (`DistinctElements`), the sizes of scopes (`ScopeSizes`), and the flat names of elements (`OutwardNames`).
+-- The instances of scopes: the walk that makes them (`LexicalParents`, `InstanceParts`, `Frames`,
+-- `WalkEntry`, `WalkExit`, `WalkSteps`). Also the elements of a scope (`DistinctElements`), the
+-- sizes of scopes (`ScopeSizes`), and the flat names of elements (`OutwardNames`).
 pub mod DistinctElements
 pub mod Frames
 pub mod LexicalParents

@@ -1,5 +1,6 @@
--- Texts with their parameters replaced: parameters in a text (`ParameterItems`), what stands for them (`ParameterMeanings`, `ParameterParents`), the
--- writing of a text (`TextParts`, `TextBuffer`), and the elements that have the texts (`ElementTexts`).
+-- Texts with their parameters replaced: the parameters in a text (`ParameterItems`), their values
+-- (`ParameterMeanings`, `ParameterParents`), writing a text (`TextParts`, `TextBuffer`), and the
+-- elements that have the texts (`ElementTexts`).
 pub mod ElementTexts
 pub mod ParameterItems
 pub mod ParameterMeanings

@@ -1,5 +1,6 @@
--- A configuration has one flat form or one fault (`OneFlatForm`, `OneFault`): its elements are one list (`OneElementList`), and so are its
--- connections (`OneOrder`), and its wrong uses stand at tokens (`TokenPlaces`).
+-- A configuration has only one flat form or one fault (`OneFlatForm`, `OneFault`). It has only one
+-- list of elements (`OneElementList`) and of connections (`OneOrder`), and its misuses are at
+-- tokens (`TokenPlaces`).
 pub mod OneElementList
 pub mod OneFault
 pub mod OneFlatForm

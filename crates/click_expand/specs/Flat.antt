@@ -29,7 +29,7 @@ most_connections = 16384
 abbrev pub most_text : ℕ
 most_text = 1048576
 
--- the local names on a path, with `/` between two of them
+-- the local names on a path, with `/` between them
 abbrev pub flat_name : List (List ℕ) → List ℕ
 flat_name [] = []
 flat_name (n ∷ []) = n
@@ -38,7 +38,7 @@ flat_name (n ∷ m ∷ ns) = n ++ 47 ∷ flat_name (m ∷ ns)
 abbrev pub flat_element : PrimitiveElement → FlatElement
 flat_element l = record { name = flat_name l.path; class = l.class; text = l.text }
 
--- a connection between two primitive elements by their places
+-- the connection is between two flat elements, by their indices
 pub record Joins (c : Config) (primitive_elements : List PrimitiveElement) (k : Connection) : Type 0 where
   pub from : PrimitiveElement
   pub from_there : slice_get primitive_elements k.from ≡ Some from
@@ -46,7 +46,7 @@ pub record Joins (c : Config) (primitive_elements : List PrimitiveElement) (k : 
   pub to_there : slice_get primitive_elements k.to ≡ Some to
   pub leads : Leads c (output_of from.path k.out_port) (input_of to.path k.in_port)
 
--- one connection stands before another: by from-element, from-port, to-element, to-port
+-- one connection comes before another: by from-element, from-port, to-element, to-port
 abbrev pub StandsBefore : Connection → Connection → Type 0
 StandsBefore c d =
     (c.from < d.from) ⊎ ((c.from ≡ d.from) × ((c.out_port < d.out_port) ⊎ ((c.out_port ≡ d.out_port) ×
@@ -56,7 +56,7 @@ abbrev pub AreOrdered : List Connection → Type 0
 AreOrdered [] = Unit {0}
 AreOrdered (c ∷ cs) = All (StandsBefore c) cs × AreOrdered cs
 
--- the connections of primitive elements: each joined pair once, in order
+-- these are the connections of the flat elements, in order and without repetition
 pub record AreConnections (c : Config) (primitive_elements : List PrimitiveElement) (ks : List Connection) : Type 0 where
   pub sound : (k : Connection) → Contains ks k → Joins c primitive_elements k
   pub complete : (k : Connection) → Joins c primitive_elements k → Contains ks k
@@ -71,11 +71,11 @@ pub record WithinLimits (primitive_elements : List PrimitiveElement) (paths : �
   pub connections : length ks ≤ most_connections
   pub text : text_size primitive_elements ≤ most_text
 
--- a text that, set in parentheses, is one token
+-- the text, in parentheses, is one token
 abbrev pub is_whole : List ℕ → Bool
 is_whole text = closes mode.Plain 1 (text ++ 41 ∷ [])
 
--- the flat names of primitive elements
+-- the flat names of flat elements
 abbrev pub flat_names : List PrimitiveElement → List (List ℕ)
 flat_names primitive_elements = map (λ (l : PrimitiveElement). flat_name l.path) primitive_elements
 
@@ -84,7 +84,8 @@ abbrev pub AreDistinct : List (List ℕ) → Type 0
 AreDistinct [] = Unit {0}
 AreDistinct (n ∷ ns) = (Contains ns n → ⊥) × AreDistinct ns
 
--- what a sound configuration stands for: its elements by their paths, how many paths there are, and its connections
+-- the meaning of a configuration without a misuse: its flat elements, the number of paths, and its
+-- connections
 pub record Meant (c : Config) (primitive_elements : List PrimitiveElement) (paths : ℕ) (ks : List Connection) : Type 0 where
   pub sound : IsFaultless c
   pub elements : PrimitiveElementsOf c primitive_elements paths
@@ -103,7 +104,7 @@ pub record IsFlat (c : Config) (f : Flat) : Type 0 where
 abbrev pub expand_fault : FaultKind → Option Span → List ℕ → ExpandFault
 expand_fault k s name = record { kind = k; span = s; name = name }
 
--- A limit is passed: by the elements, the paths, the text, or as many different connections.
+-- A limit is passed: by the elements, the paths, the text, or the number of different connections.
 pub data Exceeds (c : Config) (primitive_elements : List PrimitiveElement) (paths : ℕ) : Type 0 where
   many_elements : most_elements < length primitive_elements → Exceeds c primitive_elements paths
   many_paths : most_paths < paths → Exceeds c primitive_elements paths
@@ -111,8 +112,9 @@ pub data Exceeds (c : Config) (primitive_elements : List PrimitiveElement) (path
   many_connections : (ks : List Connection) → AreOrdered ks → ((k : Connection) → Contains ks k → Joins c primitive_elements k) → most_connections < length ks →
       Exceeds c primitive_elements paths
 
--- The first fault: a wrong use of a name, class, parameter or port; else a limit that is passed; else the first element whose flat name an earlier
--- one has; else the first text that is no longer one string.
+-- The first fault. It is a misuse of a name, class, parameter or port, or else a limit that is
+-- passed. Otherwise it is the first element with the flat name of an earlier one, or else the first
+-- configuration string that is no longer one string.
 pub data IsFlatFault (c : Config) : ExpandFault → Type 0 where
   wrong : (k : WrongUse) (s : Span) → IsFirstWrong c k s → IsFlatFault c (expand_fault (kind.Use k) (Some s) [])
   too_many : (primitive_elements : List PrimitiveElement) (paths : ℕ) → IsFaultless c → PrimitiveElementsOf c primitive_elements paths → Exceeds c primitive_elements paths →
@@ -131,7 +133,7 @@ no_memory = expand_fault kind.NoMemory None []
 abbrev pub IsMemoryOr : ExpandFault → Type 0 → Type 0
 IsMemoryOr f P = (f ≡ no_memory) ⊎ P
 
--- that flat form, unless memory ran out
+-- the result is this flat form, or out of memory
 abbrev pub IsGiven : Result Flat ExpandFault → Flat → Type 0
 IsGiven (Ok g) f = g ≡ f
 IsGiven (Err e) f = e ≡ no_memory

@@ -1,11 +1,11 @@
--- A flat configuration as text: a line for each element, then one for each connection.
+-- A flat configuration as text: a line for each element, and then a line for each connection.
 use Rattle.std.specs.Prelude.{ℕ, List, [], ◌∷◌, ◌++◌, flat_map, slice_get, Option, Some, None, nat_eq, codes, decimal, if◌then◌else◌}
 use Rattle.click_base.specs.Classes.{name}
 use Rattle.click_expand.specs.declared.flat.FlatElement.{FlatElement}
 use Rattle.click_expand.specs.declared.flat.Connection.{Connection}
 use Rattle.click_expand.specs.declared.flat.Flat.{Flat}
 
--- an empty text is left out with its parentheses
+-- a configuration string in parentheses; an empty one is left out
 abbrev pub string_of : List ℕ → List ℕ
 string_of [] = []
 string_of (b ∷ text) = codes "(" ++ (b ∷ text) ++ codes ")"
@@ -13,7 +13,7 @@ string_of (b ∷ text) = codes "(" ++ (b ∷ text) ++ codes ")"
 abbrev pub element_line : FlatElement → List ℕ
 element_line e = e.name ++ codes " :: " ++ name e.class ++ string_of e.text ++ codes ";\n"
 
--- a port in brackets; 0 is left out
+-- a port in brackets; port 0 is left out
 abbrev pub out_port : ℕ → List ℕ
 out_port p = if nat_eq p 0 then [] else codes " [" ++ decimal p ++ codes "]"
 

@@ -1,4 +1,5 @@
--- A configuration without compounds: its elements and connections are those that the whole text declares.
+-- A configuration without compounds: its elements and connections are those that the whole text
+-- declares.
 use Rattle.std.specs.Prelude.{◌≡◌, ℕ, List, [], slice_get, Contains, Option, Some}
 use Rattle.click_text.specs.declared.syntax.Config.{Config}
 use Rattle.click_scopes.specs.Scopes.{whole}
@@ -12,18 +13,18 @@ use Rattle.click_expand.specs.declared.flat.Connection.{Connection}
 abbrev pub HasNoCompounds : Config → Type 0
 HasNoCompounds c = (l : ScopeElement) (b : ℕ) → Contains (elements_of_scope c whole []) l → l.meaning ≡ Some (compound b) → ⊥
 
--- an element of the whole text, and a flat element, by name, class and text
+-- the name, class and configuration string of an element of the whole text, and of a flat element
 abbrev pub as_written : ScopeElement → List ℕ × Option Meaning × List ℕ
 as_written l = (l.name, l.meaning, l.text)
 
 abbrev pub as_flat : FlatElement → List ℕ × Option Meaning × List ℕ
 as_flat e = (e.name, Some (primitive e.class), e.text)
 
--- the element at that place goes by the end's name
+-- the element at index i has the name of the end
 abbrev pub IsNamed : List ScopeElement → ℕ → End → Type 0
 IsNamed ls i e = (l : ScopeElement) × (slice_get ls i ≡ Some l) × (l.name ≡ e.name)
 
--- a connection of the whole text, as written, joins these ports of these elements
+-- a written connection of the whole text connects these ports of these elements
 pub record IsConnectionAsWritten (c : Config) (k : Connection) : Type 0 where
   pub written_connection : WrittenConnection
   pub there : Contains (scope_connections c whole []) written_connection

@@ -1,4 +1,5 @@
--- Parameters in configuration strings (Click manual, "Compound elements"): `$x` or `${x}` outside quotes and comments.
+-- Parameters in configuration strings (Click manual, "Compound elements"): `$x` or `${x}` outside
+-- quotes and comments.
 use Rattle.std.specs.Prelude.{◌≡◌, ℕ, ◌+◌, ◌-◌, List, [], ◌∷◌, ◌++◌, length, take_while, drop, Bool, false, eqb, Option, Some, None, if◌then◌else◌}
 use Rattle.std.specs.Str.{bytes_eq}
 use Rattle.click_text.specs.declared.syntax.Span.{Span}
@@ -10,7 +11,7 @@ use Rattle.click_text.specs.Pieces.{name_byte}
 use Rattle.click_text.specs.Spans.{bytes_at}
 use Rattle.click_scopes.specs.Scopes.{Scope, whole, inside, formals_of}
 
--- the item is this byte, outside quotes and comments
+-- the byte of the item, if it is outside quotes and comments
 abbrev pub byte_of : ItemKind → Option ℕ
 byte_of (kind.Byte b) = Some b
 byte_of _ = None
@@ -29,7 +30,7 @@ is_name_item i = byte_passes name_byte (byte_of i.kind)
 abbrev pub name_run : List Item → List Item
 name_run items = take_while is_name_item items
 
--- A parameter begins these items: its name, and of how many items it is. It is `$x` or `${x}`.
+-- A parameter at the beginning of items: its name, and its number of items. It is `$x` or `${x}`.
 pub record Formal : Type 0 where
   pub name : List ℕ
   pub size : ℕ
@@ -42,7 +43,7 @@ abbrev pub is_closed : List Item → Bool
 is_closed [] = false
 is_closed (i ∷ items) = is_byte 125 i
 
--- after `$`
+-- the parameter after `$`
 abbrev pub formal_behind : List Item → Option Formal
 formal_behind [] = None
 formal_behind (i ∷ items) =
@@ -54,7 +55,7 @@ abbrev pub formal_at : List Item → Option Formal
 formal_at [] = None
 formal_at (i ∷ items) = if is_byte 36 i then formal_behind items else None
 
--- what stands for a parameter: one that has no value stays as it is
+-- the value of a parameter, and its number of items; a parameter without a value is not replaced
 abbrev pub value_by : (List ℕ → Option (List ℕ)) → Option Formal → Option (List ℕ × ℕ)
 value_by value None = None
 value_by value (Some f) = elim (value f.name) [ None ↦ None | Some v ↦ Some (v, f.size) ]
@@ -67,7 +68,8 @@ abbrev pub found_size : Option (List ℕ × ℕ) → ℕ
 found_size None = 1
 found_size (Some v) = v.1
 
--- the bytes of items, with the value of each parameter in its place; a value has stood for the first n of the items
+-- the bytes of items, with each parameter that has a value replaced by it; the first n items belong
+-- to a parameter before
 unfoldable pub replaced : (List ℕ → Option (List ℕ)) → ℕ → List Item → List ℕ
 replaced value n [] = []
 replaced value n (i ∷ items) =
@@ -75,7 +77,7 @@ replaced value n (i ∷ items) =
     then found_bytes (value_by value (formal_at (i ∷ items))) i ++ replaced value (found_size (value_by value (formal_at (i ∷ items))) - 1) items
     else replaced value (n - 1) items
 
--- the arguments of a body's instance, by the body's place
+-- the arguments of instances of bodies, by the index of the body
 abbrev pub Bindings : Type 0
 Bindings = List (ℕ × List (List ℕ))
 
@@ -83,7 +85,7 @@ abbrev pub arguments_for : Bindings → ℕ → List (List ℕ)
 arguments_for [] b = []
 arguments_for (x ∷ xs) b = if eqb x.0 b then x.1 else arguments_for xs b
 
--- the argument beside the parameter of that name, whose spans begin with `$`
+-- the argument for the parameter with this name; the span of a parameter begins with `$`
 abbrev pub argument_of : List ℕ → List Span → List (List ℕ) → List ℕ → Option (List ℕ)
 argument_of text [] values name = None
 argument_of text (f ∷ fs) [] name = None
@@ -102,7 +104,7 @@ abbrev pub value_in : Config → Bindings → List Scope → List ℕ → Option
 value_in c bindings [] name = None
 value_in c bindings (s ∷ enclosing) name = first_value (scope_value c bindings s name) (value_in c bindings enclosing name)
 
--- a text with the parameters of the bodies around it replaced
+-- the text with the parameters of the bodies around it replaced
 pub record IsReplaced (c : Config) (bindings : Bindings) (enclosing : List Scope) (text result : List ℕ) : Type 0 where
   pub items : List Item
   pub read : AreItems text items

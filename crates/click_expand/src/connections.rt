@@ -1,4 +1,4 @@
-//! The connections of flat elements.
+//! The connections between flat elements.
 
 pub mod connection_index;
 pub mod order;

@@ -1,4 +1,4 @@
-//! Why a configuration has no flat form.
+//! The faults of a configuration that has no flat form.
 
 ghost use Rattle.std.specs.Prelude.{◌≡◌};
 ghost use Rattle.click_expand.specs.FaultText.{kind_text};
@@ -9,21 +9,21 @@ use click_text::syntax::Span;
 use std::fmt;
 use thiserror::Error;
 
-/// What is wrong. It prints as its number and its name.
+/// The kind of a fault. It is printed as its number and its name.
 #[derive(Clone, Copy, Debug, PartialEq, Eq, Error)]
 #[error("{}", self.text())]
 pub enum FaultKind {
     NoMemory,
-    /// A wrong use of a name, class, parameter or port; a flat name that is declared twice is one.
+    /// A misuse of a name, class, parameter or port, or a repeated flat name.
     Use(WrongUse),
     /// A limit is passed.
     TooMany,
-    /// A text whose parameters are replaced is no longer one configuration string.
+    /// A configuration string is no longer one string after its parameters are replaced.
     BrokenText,
 }
 
 impl FaultKind {
-    /// Its number and its name, as operators see them.
+    /// Returns the number and the name of the kind, as operators see them.
     pub fn text(self) -> &'static str
         ensures { result.now ≡ kind_text self }
     {
@@ -36,18 +36,21 @@ impl FaultKind {
     }
 }
 
-/// The first fault of a configuration. It prints as its kind with its place, as `11 UnknownName at bytes 4 to 7` or `17 BrokenText at a/b`.
+/// The first fault of a configuration.
+///
+/// It is printed as its kind and its position, such as `11 UnknownName at bytes 4 to 7` or
+/// `17 BrokenText at a/b`.
 #[derive(Debug, Drop, Error)]
 #[error(fmt = write_fault)]
 pub struct ExpandFault {
     pub kind: FaultKind,
-    /// The token at which it stands, where it has one.
+    /// The token of the fault, if it has one.
     pub span: Option<Span>,
-    /// The flat name of the element of a broken text, else empty.
+    /// The flat name of the element with a broken text; empty for other faults.
     pub name: Sequence<u8>,
 }
 
-/// Writes a fault. A name's bytes are ASCII.
+/// Writes a fault. The bytes of a name are ASCII.
 fn write_fault<W: fmt::Write>(
     kind: &FaultKind,
     span: &Option<Span>,

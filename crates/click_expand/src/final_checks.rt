@@ -1,4 +1,4 @@
-//! Flat names that are taken, and texts that are no longer one configuration string.
+//! The final checks: repeated flat names, and texts that are no longer one configuration string.
 
 ghost use Rattle.std.specs.Prelude.{◌≡◌, map, true, All, IfOk, MatchOption};
 ghost use Rattle.click_expand.specs.declared.flat.FlatElement.{FlatElement as Flattened};
@@ -11,7 +11,7 @@ use click_text::string_len;
 use indexmap::IndexSet;
 use std::alloc::{AllocError, Global};
 
-/// The place of the first element whose name an earlier one has.
+/// Returns the index of the first element with the name of an earlier one.
 pub fn first_repeated(alloc: Global, elements: &[FlatElement]) -> Result<Option<usize>, AllocError>
     ensures { IfOk result (λ found. MatchOption found (AreDistinct (map (λ (e : Flattened). e.name) elements.now)) (λ i. IsRepeated elements.now i)) }
 {
@@ -25,11 +25,13 @@ pub fn first_repeated(alloc: Global, elements: &[FlatElement]) -> Result<Option<
     Ok(None)
 }
 
-/// A text that, set in parentheses, is one token. It is closed in the buffer, so that many texts need one.
+/// Returns whether the text, in parentheses, is one token.
+///
+/// perf: `closed` is a buffer, which is allocated once for many texts.
 fn is_whole(closed: &mut Vec<u8>, text: &[u8]) -> Result<bool, AllocError>
     ensures { IfOk result (λ whole. whole ≡ spec.is_whole text.now) }
 {
-    // Most elements have no text, and nothing in it closes the parenthesis early.
+    // perf: most elements have no text, which is always one token.
     if text.is_empty() {
         return Ok(true);
     }
@@ -42,7 +44,7 @@ fn is_whole(closed: &mut Vec<u8>, text: &[u8]) -> Result<bool, AllocError>
     }
 }
 
-/// The place of the first element whose text is broken.
+/// Returns the index of the first element with a broken text.
 pub fn first_broken(alloc: Global, elements: &[FlatElement]) -> Result<Option<usize>, AllocError>
     ensures { IfOk result (λ found. MatchOption found (All (λ (e : Flattened). spec.is_whole e.text ≡ true) elements.now) (λ i. IsBroken elements.now i)) }
 {

@@ -1,4 +1,4 @@
-//! A configuration without scopes.
+//! The flat form: a configuration without scopes.
 
 use click_base::Class;
 use click_base::sequence::Sequence;
@@ -12,7 +12,7 @@ pub struct FlatElement {
     pub text: Sequence<u8>,
 }
 
-/// An output joined to an input. Elements are named by their places, from 0.
+/// A connection from an output to an input. Elements are given by their indices, from 0.
 #[derive(Clone, Copy, Debug, PartialEq, Eq, PartialOrd, Ord, Hash)]
 pub struct Connection {
     pub from: usize,
@@ -21,7 +21,7 @@ pub struct Connection {
     pub in_port: u8,
 }
 
-/// Elements in the order of the text, connections in their own order, each once.
+/// A flat form: elements in flat order, and connections in their own order, without repetition.
 #[derive(Drop)]
 pub struct Flat {
     pub elements: Sequence<FlatElement>,

@@ -7,7 +7,10 @@ use crate::flat::{Connection, Flat, FlatElement};
 use itoa::Buffer;
 use std::alloc::{AllocError, Global};
 
-/// The text of a flat configuration: a line `name :: Class(text);` for each element, then one `a [p] -> [q] b;` for each connection.
+/// Returns the text of a flat configuration, or fails with out of memory.
+///
+/// It has a line `name :: Class(text);` for each element, and then a line `a [p] -> [q] b;` for
+/// each connection.
 pub fn flat_text(alloc: Global, flat: &Flat) -> Result<Vec<u8>, AllocError>
     ensures { IfOk result (λ text. text.items ≡ flat_text_of flat.now) }
 {
@@ -22,7 +25,7 @@ pub fn flat_text(alloc: Global, flat: &Flat) -> Result<Vec<u8>, AllocError>
     Ok(text)
 }
 
-/// Adds an element's line.
+/// Appends the line of an element.
 fn push_element(text: &mut Vec<u8>, element: &FlatElement) -> Result<(), AllocError>
     ensures { OnOk result (text.new.items ≡ text.old.items ++ element_line element.now) }
 {
@@ -34,7 +37,7 @@ fn push_element(text: &mut Vec<u8>, element: &FlatElement) -> Result<(), AllocEr
     Ok(())
 }
 
-/// Adds a configuration string with its parentheses. An empty one is left out.
+/// Appends a configuration string in parentheses, unless it is empty.
 fn push_string(text: &mut Vec<u8>, string: &[u8]) -> Result<(), AllocError>
     ensures { OnOk result (text.new.items ≡ text.old.items ++ string_of string.now) }
 {
@@ -46,7 +49,7 @@ fn push_string(text: &mut Vec<u8>, string: &[u8]) -> Result<(), AllocError>
     Ok(())
 }
 
-/// Adds a connection's line.
+/// Appends the line of a connection.
 fn push_connection(
     text: &mut Vec<u8>,
     elements: &[FlatElement],
@@ -63,7 +66,7 @@ fn push_connection(
     Ok(())
 }
 
-/// Adds the name of the element at that place, if there is one.
+/// Appends the name of the element at an index, if there is one.
 pub fn push_name(
     text: &mut Vec<u8>,
     elements: &[FlatElement],
@@ -77,7 +80,7 @@ pub fn push_name(
     Ok(())
 }
 
-/// Adds an output in brackets. That of number 0 is left out.
+/// Appends an output in brackets, unless it is output 0.
 fn push_out_port(text: &mut Vec<u8>, port: u8) -> Result<(), AllocError>
     ensures { OnOk result (text.new.items ≡ text.old.items ++ out_port port) }
 {
@@ -90,7 +93,7 @@ fn push_out_port(text: &mut Vec<u8>, port: u8) -> Result<(), AllocError>
     Ok(())
 }
 
-/// Adds an input in brackets. That of number 0 is left out.
+/// Appends an input in brackets, unless it is input 0.
 fn push_in_port(text: &mut Vec<u8>, port: u8) -> Result<(), AllocError>
     ensures { OnOk result (text.new.items ≡ text.old.items ++ in_port port) }
 {

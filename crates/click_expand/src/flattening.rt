@@ -24,15 +24,15 @@ use click_scopes::{ScopeFault, Scopes, WrongUse, analyze, first_token};
 use click_text::syntax::{Config, Head, Span};
 use std::alloc::{AllocError, Global};
 
-/// Why there is no flat form.
+/// The reason for which a configuration has no flat form.
 #[derive(Drop)]
 pub enum Refusal {
     NoMemory,
-    /// A wrong use, or a flat name that is taken, at a token.
+    /// A misuse at a token, or a repeated flat name.
     At(FaultKind, Span),
     /// A limit is passed.
     TooMany,
-    /// The text of the element of that flat name is broken.
+    /// The text of the element with this flat name is broken.
     Broken(Sequence<u8>),
 }
 
@@ -47,7 +47,7 @@ impl From<AllocError> for Refusal {
     }
 }
 
-/// The elements and connections, or none where there are too many.
+/// Returns the elements and connections, or `None` if a limit is passed.
 fn expanded(
     alloc: Global,
     config: &Config,
@@ -73,7 +73,7 @@ fn expanded(
     }))
 }
 
-/// What the flat element at a place begins with.
+/// Returns the head of the flat element at an index.
 fn head_at(scopes: &Scopes, instances: &Instances, place: usize) -> Option<Head>
     ensures { result ≡ head_in scopes.now.scopes.items instances.now.instances.items instances.now.primitive_elements.items place }
 {
@@ -82,7 +82,7 @@ fn head_at(scopes: &Scopes, instances: &Instances, place: usize) -> Option<Head>
     scopes.head_at(one.scope, primitive_element.element)
 }
 
-/// The first token of the flat element at a place.
+/// Returns the first token of the flat element at an index.
 fn token_of(config: &Config, scopes: &Scopes, instances: &Instances, place: usize) -> Span
     requires scopes { AreScopes config.now scopes.now }
     ensures { (primitive_elements : List Flattened) (known : List KnownInstance) (primitive_element : Flattened) → AreInstances config.now instances.now.instances.items instances.now.primitive_elements.items known primitive_elements →
@@ -94,7 +94,7 @@ fn token_of(config: &Config, scopes: &Scopes, instances: &Instances, place: usiz
     }
 }
 
-/// What is refused of the elements: the first repeated name, else the first broken text.
+/// Returns why the elements are refused: the first repeated name, or else the first broken text.
 fn refused_of(
     alloc: Global,
     config: &Config,
@@ -119,7 +119,7 @@ fn refused_of(
     Ok(None)
 }
 
-/// The flat form of a configuration without a wrong use, or why it has none.
+/// Returns the flat form of a configuration without a misuse, or the reason for which it has none.
 fn sound_flat(alloc: Global, config: &Config, scopes: &Scopes) -> Result<Flat, Refusal>
     requires nested { IsNested config.now }
     requires sound { IsFaultless config.now }
@@ -141,7 +141,7 @@ fn sound_flat(alloc: Global, config: &Config, scopes: &Scopes) -> Result<Flat, R
     }
 }
 
-/// Why what has a wrong use has no flat form.
+/// Returns the refusal for a fault of the scopes.
 fn refusal_of(fault: ScopeFault) -> Refusal
     ensures { result ≡ refusal_for fault }
 {
@@ -151,7 +151,7 @@ fn refusal_of(fault: ScopeFault) -> Refusal
     }
 }
 
-/// The flat form of a configuration, or why it has none.
+/// Returns the flat form of a configuration, or the reason for which it has none.
 fn flat_of(alloc: Global, config: &Config) -> Result<Flat, Refusal>
     requires nested { IsNested config.now }
     requires spelled { Spells config.now.text config.now }
@@ -164,7 +164,7 @@ fn flat_of(alloc: Global, config: &Config) -> Result<Flat, Refusal>
     }
 }
 
-/// The fault that tells why there is no flat form.
+/// Returns the fault that reports a refusal.
 fn fault_of(alloc: Global, refused: Refusal) -> ExpandFault
     ensures { result ≡ fault_for refused }
 {
@@ -192,11 +192,17 @@ fn fault_of(alloc: Global, refused: Refusal) -> ExpandFault
     }
 }
 
-/// The flat form of a configuration that a text spells (Click manual, "Compound elements"): its elements under their flat names in the order of the
-/// text, with all parameters replaced, and its connections, each once, by from-element, from-port, to-element, to-port. Or its first fault: of wrong
-/// names, classes, parameters and ports the one that stands first in the text; else `TooMany`, where there are more than 4,096 elements, 16,384
-/// connections, 16,384 paths to elements and compounds, or 1,048,576 bytes of argument texts; else the first element whose flat name an earlier one
-/// has; else the first whose text, set in parentheses, is no longer one token.
+/// Returns the flat form of a configuration that a text spells, or its first fault.
+///
+/// The flat form (Click manual, "Compound elements") has the elements under their flat names, in
+/// flat order, with all parameters replaced. Its connections come without repetition, ordered by
+/// from-element, from-port, to-element and to-port.
+///
+/// The first fault is the misuse of a name, class, parameter or port that comes first in the text.
+/// Otherwise it is `TooMany`, if there are more than 4,096 elements, 16,384 connections, 16,384
+/// paths to elements and compounds, or 1,048,576 bytes of configuration strings. Otherwise it is
+/// the first element with the flat name of an earlier one, or else the first with a text that, in
+/// parentheses, is no longer one token. May fail with `NoMemory`.
 pub fn flatten(alloc: Global, config: &Config) -> Result<Flat, ExpandFault>
     requires { Spells config.now.text config.now }
     ensures flat { IfOk result (λ flat. IsFlat config.now flat) }

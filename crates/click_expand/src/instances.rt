@@ -1,4 +1,4 @@
-//! The instances of scopes, how many elements they have, and the names of these.
+//! The instances of scopes, their sizes, and the flat names of their elements.
 
 pub mod flat_names;
 pub mod sizes;

@@ -1,4 +1,4 @@
-//! What holds of flat forms.
+//! Theorems about flat forms.
 
 ghost use Rattle.std.specs.Prelude.{◌≡◌, ◌<◌, ℕ, List, [], map, length, slice_get, Some, Contains};
 ghost use Rattle.click_text.specs.declared.syntax.Config.{Config};
@@ -13,12 +13,16 @@ ghost use Rattle.click_expand.specs.Flat.{StandsBefore, IsFlat, IsFlatFault};
 ghost use Rattle.click_expand.specs.OneScope.{HasNoCompounds, IsConnectionAsWritten, as_written, as_flat};
 ghost use Rattle.click_expand.specs.FlatText.{flat_text_of};
 
-/// The text of a configuration's flat form spells a configuration, whose flat form it is too. `parse` reads it where it isn't too large.
+/// The text of a flat form spells a configuration that has the same flat form.
+///
+/// `parse` returns that configuration if the text is not too large.
 pub fn flat_text_reads_back()
     ensures { (text : List ℕ) (config : Config) (flat : Flat) → Spells text config → IsFlat config flat → (again : Config) × Spells (flat_text_of flat) again × IsFlat again flat }
 {}
 
-/// A configuration that a text spells has one flat form at most, one first fault at most, and never both.
+/// A configuration has at most one flat form, at most one first fault, and never both.
+///
+/// The configuration must be one that a text spells.
 pub fn flat_once()
     ensures flat { (text : List ℕ) (config : Config) (flat other : Flat) → Spells text config → IsFlat config flat → IsFlat config other → flat ≡ other }
     ensures fault { (text : List ℕ) (config : Config) (fault other : ExpandFault) → Spells text config → IsFlatFault config fault → IsFlatFault config other → fault ≡ other }
@@ -31,20 +35,24 @@ pub fn names_are_distinct()
         slice_get flat.elements i ≡ Some e → slice_get flat.elements j ≡ Some f → e.name ≡ f.name → i ≡ j }
 {}
 
-/// The connections of a flat form stand in order, each once: by from-element, from-port, to-element, to-port.
+/// The connections of a flat form are in order, without repetition.
+///
+/// The order is by from-element, from-port, to-element and to-port.
 pub fn connections_are_ordered()
     ensures { (config : Config) (flat : Flat) (i j : ℕ) (k l : Connection) → IsFlat config flat →
         slice_get flat.connections i ≡ Some k → slice_get flat.connections j ≡ Some l → i < j → StandsBefore k l }
 {}
 
-/// Each connection of a flat form joins two of its elements.
+/// Each connection of a flat form connects two of its elements.
 pub fn ends_are_elements()
     ensures { (config : Config) (flat : Flat) (k : Connection) → IsFlat config flat →
         Contains flat.connections k → (k.from < length flat.elements) × (k.to < length flat.elements) }
 {}
 
-/// Without compounds the flat elements are those that the text declares, each with its own name, class and text, and the connections are just those
-/// that are written.
+/// Without compounds, the flat form has the elements and connections that the text declares.
+///
+/// Each element has its own name, class and configuration string, and the connections are exactly
+/// those that are written.
 pub fn flat_without_compounds()
     ensures elements { (config : Config) (flat : Flat) → HasNoCompounds config → IsFlat config flat → map as_flat flat.elements ≡ map as_written (elements_of_scope config whole []) }
     ensures written { (config : Config) (flat : Flat) (k : Connection) → HasNoCompounds config → IsFlat config flat → Contains flat.connections k → IsConnectionAsWritten config k }

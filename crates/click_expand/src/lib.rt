@@ -1,4 +1,4 @@
-//! Compounds, parameters and synonyms of a configuration are expanded to its flat form.
+//! The flat form of a configuration: its compounds, parameters and synonyms expanded.
 #![tactic(auto)]
 
 mod connections;

@@ -1,4 +1,4 @@
--- The name of a port's handler stands for that port.
+-- The name of the handler of a port stands for that port.
 use mathlib.Core.Path.{refl}
 use Rattle.std.proofs.Common.{rules}
 use Rattle.std.specs.Prelude.{◌≡◌, ℕ, zero, suc, ◌<◌, false}
@@ -25,7 +25,7 @@ port_named (suc (suc (suc (suc (suc (suc (suc (suc (suc (suc (suc (suc (suc (suc
 port_named (suc (suc (suc (suc (suc (suc (suc (suc (suc (suc (suc (suc (suc (suc (suc zero))))))))))))))) h = refl
 port_named (suc (suc (suc (suc (suc (suc (suc (suc (suc (suc (suc (suc (suc (suc (suc (suc n)))))))))))))))) h = search rules
 
--- a write of it takes no memory
+-- a write of it never allocates
 pub port_takes_none : (n : ℕ) → n < 16 → takes_room (active_name n) ≡ false
 unfolding active_name
 port_takes_none zero h = refl

@@ -1,4 +1,4 @@
--- Addresses that are written with points are read back.
+-- Addresses that are written with dots read back.
 use Rattle.std.proofs.Common.{◌≡◌, ℕ, ◌<◌, List, [], ◌∷◌, length, Ok, arith}
 use Rattle.std.specs.List.{All}
 use Rattle.click_classes.specs.Values.{address}

@@ -1,4 +1,4 @@
--- What is read after a write.
+-- Lemmas about reads after a write.
 use Rattle.std.proofs.Common.{◌≡◌, ℕ, ◌<◌, List, length, Option, Result, Ok, Err, refl, rules}
 use Rattle.std.specs.Prelude.{codes, decimal, IsSome, Bool, false}
 use Rattle.std.proofs.lemmas.Bool.{lt-ltb}
@@ -16,7 +16,7 @@ use Rattle.click_handlers.specs.Reads.{read_value, read_state, port_text, truth_
 use Rattle.click_handlers.specs.Writes.{write_value, write_state, with_state, written_port}
 use Rattle.click_handlers.specs.declared.fault.HandlerFault.{HandlerFault}
 
--- what is read of an element that was written is what is read of the state that the write makes
+-- a read after a write reads the state that the write made
 pub read_back : (told asked : List ℕ) (e f : Element) (text any : List ℕ) (value : Result (List ℕ) HandlerFault)
     → ((t : State) → write_state e.inputs e.outputs e.state told (trimmed text) ≡ Ok t → read_state e.inputs t asked any ≡ value)
     → write_value told e text ≡ Ok f → read_value asked f any ≡ value

@@ -1,4 +1,4 @@
--- Rows of a table, and the list that they must be.
+-- Lemmas about the rows of a table and the list of handlers that they must be.
 use Rattle.std.proofs.Common.{◌≡◌, ℕ, ◌<◌, ◌≤◌, ◌+◌, List, [], ◌∷◌, ◌++◌, map, length, take, drop, get_or, Bool, true, false, ◌||◌, ◌&&◌, Some, refl, sym, ◌∙◌, ap, arith}
 use Rattle.std.proofs.lemmas.List.{drop_more, append_cancel_left, take_all}
 use Rattle.std.proofs.lemmas.List.Folds.{list_any-append, list_any_at}
@@ -16,7 +16,7 @@ pub list_any_map : {A B : Type 0} (p : B → Bool) (f : A → B) (xs : List A) �
 list_any_map p f [] = refl
 list_any_map p f (x ∷ xs) = ap (λ b. p (f x) || b) (list_any_map p f xs)
 
--- classes with one name are one class
+-- classes with the same name are the same class
 pub same_by_name : (a b : Class) → class_name a ≡ class_name b → a ≡ b
 same_by_name a b e = some_inj a b (sym (named a (class_name b) e) ∙ named b (class_name b) refl) where
   some_inj : (a b : Class) → Some a ≡ Some b → a ≡ b
@@ -35,7 +35,7 @@ same_row class name r is =
 pub is_named_itself : (class : Class) (name : List ℕ) → is_named class name (of_class class name) ≡ true
 is_named_itself class name = rw ((bytes_eq-Decides (class_name class) (class_name class)).1 refl) ((bytes_eq-Decides name name).1 refl)
 
--- the row of the next name
+-- the next row has the next name
 pub next_row : {A B : Type 0} (f : A → HandlerName) (g : B → HandlerName) (rest others : List A) (row : A) (names : List B) (i : ℕ) (n : B) (h : HandlerName) (more : List HandlerName) (Whole : Type 0)
     → rest ≡ row ∷ others → i < length names → h ≡ g (get_or names i n) → f row ≡ h
     → ((map f rest ≡ map g (drop i names) ++ more → Whole) × (Whole → map f rest ≡ map g (drop i names) ++ more))
@@ -51,7 +51,7 @@ next_row f g rest others row names i n h more Whole is lt at same whole =
       behind_one : (x y : HandlerName) (xs ys : List HandlerName) → x ∷ xs ≡ y ∷ ys → xs ≡ ys
       behind_one x y xs ys e = cc
 
--- a row that is another's
+-- the next row has another name
 pub other_row : {A B : Type 0} (f : A → HandlerName) (g : B → HandlerName) (rest others : List A) (row : A) (names : List B) (i : ℕ) (n : B) (h : HandlerName) (more : List HandlerName)
     → rest ≡ row ∷ others → i < length names → h ≡ g (get_or names i n) → is_named h.class h.name (f row) ≡ false
     → map f rest ≡ map g (drop i names) ++ more → ⊥
@@ -64,7 +64,7 @@ other_row f g rest others row names i n h more is lt at isnt e =
       first_one : (x y : HandlerName) (xs ys : List HandlerName) → x ∷ xs ≡ y ∷ ys → x ≡ y
       first_one x y xs ys e = cc
 
--- no row where a name is to come
+-- no row is left for the next name
 pub no_next_row : {A B : Type 0} (f : A → HandlerName) (g : B → HandlerName) (rest : List A) (names : List B) (i : ℕ) (n : B) (more : List HandlerName)
     → length rest ≡ 0 → i < length names → map f rest ≡ map g (drop i names) ++ more → ⊥
 no_next_row f g rest names i n more is lt e =
@@ -75,12 +75,13 @@ no_next_row f g rest names i n more is lt e =
       empty [] e = refl
       empty (x ∷ xs) e = absurd (omega (arith, e))
 
--- the classes up to one have the handlers of those before it, and its own
+-- the handlers of the remaining classes are those of the next class, followed by those of the
+-- others
 pub next_class : (names_of : Class → List (List ℕ)) (cs : List Class) (i : ℕ) (d c : Class) → i < length cs → c ≡ get_or cs i d
     → names_by names_of (drop i cs) ≡ map (of_class c) (names_of c) ++ names_by names_of (drop (i + 1) cs)
 next_class names_of cs i d c lt at = ap (names_by names_of) (drop_more cs i d lt ∙ ap (λ x. x ∷ drop (i + 1) cs) (sym at))
 
--- by a class's names, whether a list has a handler of it
+-- whether a list has a handler of a class, by the class's names
 any_of : (names_of : Class → List (List ℕ)) (class : Class) (handler : List ℕ) (cs : List Class)
     → list_any (is_named class handler) (names_by names_of cs) ≡ (list_any (λ c. bytes_eq (class_name c) (class_name class)) cs && list_any (λ n. bytes_eq n handler) (names_of class))
 any_of names_of class handler [] = refl
@@ -109,7 +110,7 @@ any_of names_of class handler (c ∷ cs) =
           rw (own (names_of c) true e, e, same) (or_itself (list_any (λ c. bytes_eq (class_name c) (class_name class)) cs) (list_any (λ n. bytes_eq n handler) (names_of class)))
       go false e = rw (own (names_of c) false e, e) refl
 
--- a class that is not among those with handlers has no names, by computing it for each class
+-- a class that is not in the list of classes with handlers has no names; computed for each class
 handled_reads : (class : Class) (handler : List ℕ) → (list_any (λ c. bytes_eq (class_name c) (class_name class)) handled && has_read class handler) ≡ has_read class handler
 unfolding reads_of
 handled_reads class.Queue handler = refl
@@ -128,7 +129,7 @@ pub write_listed : (class : Class) (handler : List ℕ) → list_any (is_named c
 unfolding write_names
 write_listed class handler = any_of writes_of class handler handled ∙ handled_writes class handler
 
--- among names that are lent
+-- a name is in a list of borrowed names if and only if it is in the list of the names
 pub among : {B : Type 0} (g : B → List ℕ) (xs : List B) (names : List (List ℕ)) (handler : List ℕ) → map g xs ≡ names → list_any (λ n. bytes_eq (g n) handler) xs ≡ list_any (λ n. bytes_eq n handler) names
 among g xs names handler e = sym (list_any_map (λ n. bytes_eq n handler) g xs) ∙ ap (list_any (λ n. bytes_eq n handler)) e
 
@@ -137,14 +138,14 @@ never P isnt = (λ h. absurd (no_false h), λ p. absurd (isnt p)) where
   no_false : IsTrue false → ⊥
   no_false h = cc
 
--- a class's names, as they are lent
+-- the handlers of a class, from the borrowed list of its names
 lent : {B : Type 0} (v : B → List ℕ) (class : Class) (xs : List B) (names : List (List ℕ)) → map v xs ≡ names → map (λ n. of_class class (v n)) xs ≡ map (of_class class) names
 lent {B = B} v class xs names e = each xs ∙ ap (map (of_class class)) e where
   each : (ys : List B) → map (λ n. of_class class (v n)) ys ≡ map (of_class class) (map v ys)
   each [] = refl
   each (y ∷ ys) = ap (λ l. of_class class (v y) ∷ l) (each ys)
 
--- the rows of the next class's names, and those behind them
+-- the rows of the next class's names, and the rows after them
 pub behind_class : {A B : Type 0} (f : A → HandlerName) (v : B → List ℕ) (names_of : Class → List (List ℕ)) (cs : List Class) (rest others : List A) (xs : List B) (i : ℕ) (d c : Class) (Whole : Type 0)
     → i < length cs → c ≡ get_or cs i d → map v xs ≡ names_of c → map f rest ≡ map (λ n. of_class c (v n)) xs ++ map f others
     → ((map f rest ≡ names_by names_of (drop i cs) → Whole) × (Whole → map f rest ≡ names_by names_of (drop i cs)))
@@ -162,14 +163,14 @@ pub not_behind_class : {A B : Type 0} (f : A → HandlerName) (v : B → List �
 not_behind_class f v names_of cs rest xs i d c lt at named e =
     e ∙ next_class names_of cs i d c lt at ∙ ap (λ l. l ++ names_by names_of (drop (i + 1) cs)) (sym (lent v c xs (names_of c) named))
 
--- a row that has the class and the name is one of the list
+-- a row with the class and the name is one of the list
 pub found_row : {A : Type 0} (f : A → HandlerName) (rows : List A) (all : List HandlerName) (class : Class) (name : List ℕ) (i : ℕ) (x : A) → map f rows ≡ all
     → i < length rows → x ≡ get_or rows i x → is_named class name (f x) ≡ true → list_any (is_named class name) all ≡ true
 found_row f rows all class name i x whole lt here is =
     ap (list_any (is_named class name)) (sym whole) ∙ list_any_map (is_named class name) f rows
     ∙ list_any_at (λ r. is_named class name (f r)) rows i x lt (ap (λ r. is_named class name (f r)) (sym here) ∙ is)
 
--- none has it, and none of the list
+-- if no row has the class and the name, the list has no such handler
 pub no_row : {A : Type 0} (f : A → HandlerName) (rows : List A) (all : List HandlerName) (class : Class) (name : List ℕ) (n : ℕ) → map f rows ≡ all
     → length rows ≤ n → list_any (λ r. is_named class name (f r)) (take n rows) ≡ false → list_any (is_named class name) all ≡ false
 no_row f rows all class name n whole le none =

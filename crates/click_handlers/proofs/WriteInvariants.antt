@@ -1,4 +1,4 @@
--- What a write keeps of an element.
+-- What a write preserves of an element.
 use Rattle.std.proofs.Common.{◌≡◌, ℕ, ◌≤◌, List, length, slice_set, Bool, true, false, nat_lt, if◌then◌else◌, Option, Some, None, Result, Ok, Err, codes, refl, sym, ap, ◌∙◌, subst, arith}
 use Rattle.std.specs.Str.{bytes_eq}
 use Rattle.std.proofs.lemmas.Bool.Decides.{nat_tests}
@@ -17,7 +17,7 @@ use Rattle.click_handlers.specs.Writes.{number_from, port_below, written_port, w
 use Rattle.click_handlers.specs.declared.fault.HandlerFault.{HandlerFault}
 use Rattle.click_handlers.specs.declared.fault.HandlerFault.TheVariants as fault
 
--- a state after a write, beside the one before
+-- what a write preserves of a state
 pub record IsKept (inputs outputs : ℕ) (s t : State) : Type 0 where
   pub its_class : class t ≡ class s
   pub fits : FitsPorts inputs outputs s → FitsPorts inputs outputs t
@@ -26,7 +26,7 @@ pub record IsKept (inputs outputs : ℕ) (s t : State) : Type 0 where
 ok_is : {X : Type 0} (x y : X) → ◌≡◌ {A = Result X HandlerFault} (Ok x) (Ok y) → x ≡ y
 ok_is x y e = cc
 
--- what was written was made of a value
+-- a state after a successful write is made of a value
 made_by : {X : Type 0} (f : X → State) (r : Result X HandlerFault) (t : State) → as_state f r ≡ Ok t → (x : X) × (r ≡ Ok x) × (f x ≡ t)
 made_by f (Ok x) t e = (x, refl, ok_is (f x) t e)
 made_by f (Err h) t e = absurd (let k = e in cc)
@@ -74,7 +74,7 @@ written-below ports text o e =
 
 -- ---- states
 
--- a state of the class that allows the same numbers of ports
+-- a state of the same class that allows the same numbers of ports fits them
 refitted : (inputs outputs : ℕ) (s t : State) → counts s ≡ counts t → HasTurn inputs outputs t → FitsPorts inputs outputs s → FitsPorts inputs outputs t
 refitted inputs outputs s t same turn h = record {
   inputs_from = subst (λ (k : Counts). k.inputs.0 ≤ inputs) same h.inputs_from;
@@ -172,7 +172,7 @@ module _ (inputs outputs : ℕ) where
 
 -- ---- elements
 
--- an element after a write, beside the one before
+-- what a write preserves of an element
 pub record IsWritten (e f : Element) : Type 0 where
   pub class : f.class ≡ e.class
   pub inputs : f.inputs ≡ e.inputs

@@ -1,4 +1,4 @@
--- Which handlers each class has, in order (Click element reference).
+-- The handlers of each class, in order (Click element reference).
 use Rattle.std.specs.Prelude.{ℕ, List, [], ◌∷◌, map, flat_map, codes, Bool, ◌&&◌, slice_get, position, unwrap_or}
 use Rattle.std.specs.List.{list_any}
 use Rattle.std.specs.Str.{bytes_eq}
@@ -28,14 +28,18 @@ active_name port = unwrap_or (slice_get active_names port) []
 abbrev pub active_port : List ℕ → ℕ
 active_port name = unwrap_or (position (λ other. bytes_eq other name) active_names) 16
 
--- what a queue's elements can be asked and told
+-- the name at an index of a list of names, from 0
+abbrev pub name_at : List (List ℕ) → ℕ → List ℕ
+name_at names place = unwrap_or (slice_get names place) []
+
+-- the handlers of a queue that can be read, and that can be written
 abbrev pub queue_reads : List (List ℕ)
 queue_reads = codes "length" ∷ codes "highwater_length" ∷ codes "drops" ∷ codes "capacity" ∷ []
 
 abbrev pub queue_writes : List (List ℕ)
 queue_writes = codes "capacity" ∷ codes "reset_counts" ∷ codes "reset" ∷ []
 
--- what elements of a class can be asked, in order
+-- the handlers of a class that can be read, in order
 unfoldable pub reads_of : Class → List (List ℕ)
 reads_of class.Queue = queue_reads
 reads_of class.FrontDropQueue = queue_reads
@@ -47,7 +51,7 @@ reads_of class.StaticIPLookup = codes "lookup" ∷ []
 reads_of class.InfiniteSource = codes "active" ∷ codes "count" ∷ []
 reads_of _ = []
 
--- what they can be told
+-- the handlers of a class that can be written, in order
 unfoldable pub writes_of : Class → List (List ℕ)
 writes_of class.Queue = queue_writes
 writes_of class.FrontDropQueue = queue_writes
@@ -58,11 +62,11 @@ writes_of class.Suppressor = active_names
 writes_of class.InfiniteSource = codes "active" ∷ codes "reset" ∷ []
 writes_of _ = []
 
--- the handlers of these classes, one class after another, by the names that each has
+-- the handlers of these classes, one class after another, by the names that each class has
 abbrev pub names_by : (Class → List (List ℕ)) → List Class → List HandlerName
 names_by names_of cs = flat_map (λ c. map (of_class c) (names_of c)) cs
 
--- the classes whose elements have handlers, in the order in which a table has them
+-- the classes whose elements have handlers, in the order of a table
 abbrev pub handled : List Class
 handled =
     class.Queue ∷ class.FrontDropQueue ∷ class.Counter ∷ class.Switch ∷ class.PullSwitch ∷ class.Suppressor ∷ class.InfiniteSource ∷
@@ -75,11 +79,11 @@ read_names = names_by reads_of handled
 unfoldable pub write_names : List HandlerName
 write_names = names_by writes_of handled
 
--- the handler is this class's of this name; a class has one name
+-- it is the handler of this class with this name; classes are compared by their names
 abbrev pub is_named : Class → List ℕ → HandlerName → Bool
 is_named class handler h = bytes_eq (name h.class) (name class) && bytes_eq h.name handler
 
--- elements of the class can be asked that, or told that: the name is one of the class's
+-- whether elements of the class have a handler of this name that can be read, or written
 abbrev pub has_read : Class → List ℕ → Bool
 has_read class handler = list_any (λ n. bytes_eq n handler) (reads_of class)
 

@@ -1,4 +1,5 @@
--- What a handler answers that is read: bytes, or a fault (Click element reference, the handlers of each class).
+-- The value of a handler that is read: bytes, or a fault (Click element reference, the handlers of
+-- each class).
 use Rattle.std.specs.Prelude.{ℕ, List, [], ◌++◌, length, Bool, false, nat_lt, slice_index, slice_index_or, Option, Some, None, Result, Ok, Err, codes, decimal, if◌then◌else◌}
 use Rattle.std.specs.Str.{bytes_eq}
 use Rattle.click_classes.specs.Queues.{Queued}
@@ -28,12 +29,12 @@ dotted address =
     decimal (slice_index address 0) ++ codes "." ++ decimal (slice_index address 1) ++ codes "." ++ decimal (slice_index address 2) ++ codes "."
     ++ decimal (slice_index address 3)
 
--- the gateway of an entry, behind a space
+-- the gateway of an entry, after a space
 abbrev pub gateway_text : Option (List ℕ) → List ℕ
 gateway_text None = []
 gateway_text (Some gateway) = codes " " ++ dotted gateway
 
--- the output of the entry that an address has, and its gateway; -1 for none
+-- the output of the entry for an address, and its gateway; -1 for none
 abbrev pub route_text : Option Entry → List ℕ
 route_text None = codes "-1"
 route_text (Some entry) = decimal entry.output ++ gateway_text entry.gateway
@@ -49,11 +50,11 @@ read_queue q handler =
     else if bytes_eq handler (codes "drops") then decimal q.drops
     else decimal q.list.capacity
 
--- whether a port of a Suppressor with so many inputs is active
+-- whether a port of a Suppressor with this number of inputs is active
 abbrev pub read_active : ℕ → List Bool → ℕ → Result (List ℕ) HandlerFault
 read_active inputs active port = if nat_lt port inputs then Ok (truth_text (slice_index_or active port false)) else Err fault.OutOfRange
 
--- what an element with so many inputs and that state answers
+-- the value of a handler of an element with this number of inputs and this state
 abbrev pub read_state : ℕ → State → List ℕ → List ℕ → Result (List ℕ) HandlerFault
 read_state inputs (state.Queue list drops highest) handler text = Ok (read_queue (record { list = list; drops = drops; highest = highest }) handler)
 read_state inputs (state.FrontDropQueue list drops highest) handler text = Ok (read_queue (record { list = list; drops = drops; highest = highest }) handler)
@@ -65,6 +66,7 @@ read_state inputs (state.InfiniteSource bytes limit burst active count) handler 
 read_state inputs (state.StaticIPLookup entries) handler text = lookup_of entries (address (trimmed text))
 read_state inputs _ handler text = Ok []
 
--- What a handler of an element answers that is read with a text. The class has that handler (`has_read`).
+-- The value of a handler of an element, which is read with a text. The class has the handler
+-- (`has_read`).
 abbrev pub read_value : List ℕ → Element → List ℕ → Result (List ℕ) HandlerFault
 read_value handler element text = read_state element.inputs element.state handler text

@@ -1,4 +1,4 @@
--- What becomes of an element when a handler is written (Click element reference, the handlers of each class).
+-- An element after a write of a handler (Click element reference, the handlers of each class).
 use Rattle.std.specs.Prelude.{ℕ, ◌+◌, ◌-◌, ◌^◌, min, List, [], length, take, Bool, nat_lt, slice_set, Option, Some, None, Result, Ok, Err, codes, if◌then◌else◌}
 use Rattle.std.specs.Str.{bytes_eq}
 use Rattle.click_classes.specs.Queues.{Queued}
@@ -13,7 +13,7 @@ use Rattle.click_handlers.specs.Names.{active_port}
 use Rattle.click_handlers.specs.declared.fault.HandlerFault.{HandlerFault}
 use Rattle.click_handlers.specs.declared.fault.HandlerFault.TheVariants as fault
 
--- a number from low to high, in decimal digits alone
+-- a number from low to high, in decimal digits only
 abbrev pub as_number : Result ℕ ArgFault → Result ℕ HandlerFault
 as_number (Ok n) = Ok n
 as_number (Err arg.OutOfRange) = Err fault.OutOfRange
@@ -22,7 +22,7 @@ as_number (Err f) = Err fault.BadNumber
 abbrev pub number_from : ℕ → ℕ → List ℕ → Result ℕ HandlerFault
 number_from low high text = as_number (decimal_number low high text)
 
--- -1, or a port below a number of ports; no switch has more than 256
+-- -1, or a port below the number of ports; no switch has more than 256
 abbrev pub port_below : ℕ → Result ℕ HandlerFault → Result (Option ℕ) HandlerFault
 port_below ports (Ok n) = if nat_lt n ports then Ok (Some n) else Err fault.OutOfRange
 port_below ports (Err f) = Err f
@@ -38,7 +38,7 @@ flag_of (Err f) = Err fault.BadFlag
 abbrev pub written_flag : List ℕ → Result Bool HandlerFault
 written_flag text = flag_of (truth text)
 
--- a queue with another capacity: the first packets stay, the others go and are counted as drops
+-- a queue with another capacity: the first packets stay, and the others are counted as drops
 abbrev pub resized : Queued → ℕ → Queued
 resized q capacity = record {
   list = record { packets = take capacity q.list.packets; capacity = capacity };
@@ -50,11 +50,11 @@ abbrev pub with_capacity : Queued → Result ℕ HandlerFault → Result Queued 
 with_capacity q (Ok n) = Ok (resized q n)
 with_capacity q (Err f) = Err f
 
--- no drops, and the highest length is the length
+-- a queue without drops, whose highest length is its length
 abbrev pub without_counts : Queued → Queued
 without_counts q = record { list = q.list; drops = 0; highest = length q.list.packets }
 
--- no packets
+-- a queue without packets
 abbrev pub emptied : Queued → Queued
 emptied q = record q { list = record q.list { packets = [] } }
 
@@ -68,12 +68,14 @@ abbrev pub as_state : {X : Type 0} → (X → State) → Result X HandlerFault �
 as_state f (Ok x) = Ok (f x)
 as_state f (Err e) = Err e
 
--- a Suppressor with so many inputs: the port has to be there, then the text has to be a truth value
+-- A Suppressor with this number of inputs. The port must exist, and then the text must be a truth
+-- value.
 abbrev pub write_active : ℕ → List Bool → ℕ → List ℕ → Result State HandlerFault
 write_active inputs active port text =
     if nat_lt port inputs then as_state (λ b. state.Suppressor (slice_set active port b)) (written_flag text) else Err fault.OutOfRange
 
--- the state after a write of the text, without blanks at its ends, at an element with so many ports
+-- the state after a write of the text, whose blanks at the ends were removed, at an element with
+-- these numbers of ports
 abbrev pub write_state : ℕ → ℕ → State → List ℕ → List ℕ → Result State HandlerFault
 write_state inputs outputs (state.Queue list drops highest) handler text =
     as_state (λ (q : Queued). state.Queue q.list q.drops q.highest) (write_queue (record { list = list; drops = drops; highest = highest }) handler text)
@@ -92,6 +94,7 @@ abbrev pub with_state : Element → Result State HandlerFault → Result Element
 with_state element (Ok s) = Ok (record element { state = s })
 with_state element (Err f) = Err f
 
--- The element after a handler of it was written with a text, or why it is as it was. The class has that handler (`has_write`).
+-- The element after a write of one of its handlers with a text, or the fault that leaves it
+-- unchanged. The class has the handler (`has_write`).
 abbrev pub write_value : List ℕ → Element → List ℕ → Result Element HandlerFault
 write_value handler element text = with_state element (write_state element.inputs element.outputs element.state handler (trimmed text))

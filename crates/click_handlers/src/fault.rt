@@ -1,11 +1,11 @@
-//! Why a handler, or a table of them, is refused.
+//! The faults of handlers and of handler tables.
 
 ghost use Rattle.std.specs.Prelude.{◌≡◌};
 ghost use Rattle.click_handlers.specs.Answers.{fault_text};
 
 use thiserror::Error;
 
-/// Why a handler does not answer. The element is as it was.
+/// The reason why a handler refuses or fails. The element is unchanged.
 #[derive(Clone, Copy, Debug, PartialEq, Eq, Error)]
 pub enum HandlerFault {
     #[error("not a number")]
@@ -21,7 +21,7 @@ pub enum HandlerFault {
 }
 
 impl HandlerFault {
-    /// The fault as a reply tells it.
+    /// Returns the text of the fault, as a reply has it.
     pub fn text(self) -> &'static [u8]
         ensures { result.now ≡ fault_text self }
     {
@@ -35,10 +35,10 @@ impl HandlerFault {
     }
 }
 
-/// Why rows are no table.
+/// The reason why rows are not a table.
 #[derive(Clone, Copy, Debug, PartialEq, Eq, Error)]
 pub enum TableFault {
-    /// They are not the handlers of the classes in their order, each once.
+    /// The rows are not the handlers of the classes, in order and exactly once.
     #[error("the rows are not the handlers of the classes in their order")]
     WrongRows,
 }

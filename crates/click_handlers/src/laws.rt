@@ -1,4 +1,4 @@
-//! What holds of the definitions of handlers.
+//! Theorems about the definitions of handlers.
 
 ghost use Rattle.std.specs.Prelude.{◌≡◌, ◌+◌, ◌<◌, ◌≤◌, ◌^◌, ℕ, List, Bool, Ok, Option, length, codes, decimal, take, IsSome};
 ghost use Rattle.std.specs.List.{list_any};
@@ -15,50 +15,55 @@ ghost use Rattle.click_base.specs.Blanks.{trimmed};
 ghost use Rattle.click_handlers.specs.Reads.{read_value, port_text, truth_text};
 ghost use Rattle.click_handlers.specs.Writes.{write_value, resized, written_port};
 
-/// Among the handlers of all classes, those of a class are what its elements can be asked, or told.
+/// In the list of all handlers, those of a class are exactly those that its elements have.
 pub fn all_handlers_are_those_of_the_classes()
     ensures reads { (of : Class) (handler : List ℕ) → list_any (is_named of handler) read_names ≡ has_read of handler }
     ensures writes { (of : Class) (handler : List ℕ) → list_any (is_named of handler) write_names ≡ has_write of handler }
 {}
 
-/// A queue's capacity that was written is read back.
+/// The `capacity` that was written to a queue is read back.
 pub fn written_capacity_is_read()
     ensures { (e f : Element) (text any : List ℕ) (n : ℕ) → IsSome (queue_of e.state) → decimal_number 1 10000 (trimmed text) ≡ Ok n
         → write_value (codes "capacity") e text ≡ Ok f → read_value (codes "capacity") f any ≡ Ok (decimal n) }
 {}
 
-/// A Switch's output that was written is read back.
+/// The `switch` that was written to a Switch is read back.
 pub fn written_switch_is_read()
     ensures { (e f : Element) (text any : List ℕ) (port : Option ℕ) → class e.state ≡ is.Switch → written_port e.outputs (trimmed text) ≡ Ok port
         → write_value (codes "switch") e text ≡ Ok f → read_value (codes "switch") f any ≡ Ok (port_text port) }
 {}
 
-/// A PullSwitch's input that was written is read back.
+/// The `switch` that was written to a PullSwitch is read back.
 pub fn written_pull_switch_is_read()
     ensures { (e f : Element) (text any : List ℕ) (port : Option ℕ) → class e.state ≡ is.PullSwitch → written_port e.inputs (trimmed text) ≡ Ok port
         → write_value (codes "switch") e text ≡ Ok f → read_value (codes "switch") f any ≡ Ok (port_text port) }
 {}
 
-/// Whether packets pass at a Suppressor's port is read back as it was written.
+/// The truth value that was written for a port of a Suppressor is read back.
 pub fn written_active_is_read()
     ensures { (e f : Element) (active : List Bool) (text any : List ℕ) (port : ℕ) (b : Bool) → e.state ≡ state.Suppressor active → port < 16 → port < e.inputs
         → port < length active → truth (trimmed text) ≡ Ok b → write_value (active_name port) e text ≡ Ok f → read_value (active_name port) f any ≡ Ok (truth_text b) }
 {}
 
-/// A Counter's counts are 0 once they are reset.
+/// A Counter's counts are 0 after a reset.
 pub fn reset_counts_are_zero()
     ensures { (e f : Element) (text any : List ℕ) → class e.state ≡ is.Counter → write_value (codes "reset_counts") e text ≡ Ok f
         → (read_value (codes "count") f any ≡ Ok (decimal 0)) × (read_value (codes "byte_count") f any ≡ Ok (decimal 0)) }
 {}
 
-/// A queue that gets another capacity keeps its first packets in order, and loses none silently: length plus drops is as it was.
+/// A queue with a new capacity keeps its first packets, in order.
+///
+/// It counts the others as drops, so its length plus its drops stay the same.
 pub fn another_capacity_loses_nothing()
     ensures first { (q : Queued) (n : ℕ) → (resized q n).list.packets ≡ take n q.list.packets }
     ensures counted { (q : Queued) (n : ℕ) → length q.list.packets + q.drops < 2 ^ 64
         → length (resized q n).list.packets + (resized q n).drops ≡ length q.list.packets + q.drops }
 {}
 
-/// A write changes of an element its state alone, to one of the same class. It still fits its ports, whatever the text, and no queue holds more than it has room for.
+/// A write changes only the state of an element, and the new state has the same class.
+///
+/// The element still fits its ports, whatever the text, and no queue holds more packets than it has
+/// room for.
 pub fn writes_keep_elements_fitting()
     ensures class { (handler text : List ℕ) (e f : Element) → write_value handler e text ≡ Ok f → class f.state ≡ class e.state }
     ensures rest { (handler text : List ℕ) (e f : Element) → write_value handler e text ≡ Ok f → (f.class ≡ e.class) × (f.inputs ≡ e.inputs) × (f.outputs ≡ e.outputs) }

@@ -1,5 +1,5 @@
-//! Handlers: what elements are asked and told by name, and rows that store a call of each with the promise that it answers so
-//! (Click manual, "Handlers").
+//! Handlers: named values and actions of elements (Click manual, "Handlers"). A row stores the call
+//! of a handler together with its contract.
 #![tactic(auto)]
 
 mod fault;

@@ -1,13 +1,13 @@
 //! The handlers of each class, in order.
 
-ghost use Rattle.std.specs.Prelude.{◌≡◌, ◌<◌, map};
+ghost use Rattle.std.specs.Prelude.{◌≡◌, map};
 ghost use Rattle.std.specs.List.{list_any};
 ghost use Rattle.std.specs.Str.{bytes_eq};
-ghost use Rattle.click_handlers.specs.Names.{active_name, has_read, has_write, reads_of, writes_of};
+ghost use Rattle.click_handlers.specs.Names.{has_read, has_write, reads_of, writes_of};
 
 use click_base::Class;
 
-/// The classes whose elements have handlers, in the order in which a table has them.
+/// The classes whose elements have handlers, in the order of a table.
 pub(crate) const HANDLED: [Class; 8] = [
     Class::Queue,
     Class::FrontDropQueue,
@@ -19,7 +19,7 @@ pub(crate) const HANDLED: [Class; 8] = [
     Class::StaticIPLookup,
 ];
 
-/// The handlers of a Suppressor's ports.
+/// The names of the handlers of a Suppressor's ports.
 const ACTIVE: &[&[u8]] = &[
     b"active0",
     b"active1",
@@ -39,7 +39,7 @@ const ACTIVE: &[&[u8]] = &[
     b"active15",
 ];
 
-/// What elements of a class can be asked, in order.
+/// Returns the names of the handlers of a class that can be read, in order.
 #[tactic(auto, unfolding(crate::specs::Names::reads_of))]
 pub fn reads_of(class: Class) -> &'static [&'static [u8]]
     ensures { map (λ n. n.now) result.now ≡ reads_of class }
@@ -57,7 +57,7 @@ pub fn reads_of(class: Class) -> &'static [&'static [u8]]
     }
 }
 
-/// What elements of a class can be told, in order.
+/// Returns the names of the handlers of a class that can be written, in order.
 #[tactic(auto, unfolding(crate::specs::Names::writes_of))]
 pub fn writes_of(class: Class) -> &'static [&'static [u8]]
     ensures { map (λ n. n.now) result.now ≡ writes_of class }
@@ -72,16 +72,7 @@ pub fn writes_of(class: Class) -> &'static [&'static [u8]]
     }
 }
 
-/// The name of the handler of a Suppressor's port.
-#[tactic(auto, unfolding(crate::specs::Names::active_name))]
-pub(crate) fn active_name(port: u16) -> &'static [u8]
-    requires { port < 16 }
-    ensures { result.now ≡ active_name port }
-{
-    ACTIVE[usize::from(port)]
-}
-
-/// Whether a name is one of these.
+/// Returns whether the name is in the list.
 fn is_among(names: &[&[u8]], name: &[u8]) -> bool
     ensures { result ≡ list_any (λ n. bytes_eq n.now name.now) names.now }
 {
@@ -93,14 +84,14 @@ fn is_among(names: &[&[u8]], name: &[u8]) -> bool
     false
 }
 
-/// Whether elements of the class have a handler of that name that is read.
+/// Returns whether elements of the class have a handler of that name that can be read.
 pub fn has_read(class: Class, name: &[u8]) -> bool
     ensures { result ≡ has_read class name.now }
 {
     is_among(reads_of(class), name)
 }
 
-/// Whether elements of the class have a handler of that name that is written.
+/// Returns whether elements of the class have a handler of that name that can be written.
 pub fn has_write(class: Class, name: &[u8]) -> bool
     ensures { result ≡ has_write class name.now }
 {

@@ -1,4 +1,4 @@
-//! Rows: handlers' calls, stored with the promise of what they answer.
+//! Rows: the calls of handlers, stored with their contracts.
 
 ghost use Rattle.std.specs.Prelude.{◌≡◌, ◌++◌, ◌∷◌, [], map, OnOk};
 ghost use Rattle.std.specs.Str.{bytes_eq};
@@ -15,7 +15,9 @@ use click_base::Class;
 use click_engine::Element;
 use std::alloc::{AllocError, Global};
 
-/// Whether two names are the same. It is apart, so that a row of another class costs no place for names.
+/// Returns whether two names are equal.
+///
+/// perf: a function of its own, so that a row of another class needs no room for names.
 #[inline(always)]
 fn is_same(one: &[u8], other: &[u8]) -> bool
     ensures { result ≡ bytes_eq one.now other.now }
@@ -23,7 +25,8 @@ fn is_same(one: &[u8], other: &[u8]) -> bool
     one == other
 }
 
-/// What a table sees of a row: which handler it is, and which names a class has in such rows.
+/// A row as a table sees it: the handler that it is of, and the names that a class has in such
+/// rows.
 pub(crate) trait Listed {
     ghost use Rattle.std.specs.Prelude.{◌≡◌, ℕ, List, map};
     ghost use Rattle.click_base.specs.declared.class.Class.{Class};
@@ -33,19 +36,19 @@ pub(crate) trait Listed {
 
     ghost names: { Class → List (List ℕ) };
 
-    /// Whether it is the row of the class and the name.
+    /// Returns whether this is the row of the class and the name.
     fn is_of(&self, class: Class, name: &[u8]) -> bool
         ensures { result ≡ is_named class name.now (handler self.now) };
 
-    /// The names of a class, in order.
+    /// Returns the names of a class, in order.
     fn names_of(class: Class) -> &'static [&'static [u8]]
         ensures { map (λ n. n.now) result.now ≡ names class };
 }
 
-/// A call that reads: it lends the element and a text.
+/// A call that reads a handler. It borrows the element and a text.
 pub type ReadCall = Box<dyn Fn(Global, &Element, &[u8]) -> Result<Vec<u8>, HandlerFault> + Send>;
 
-/// A read handler of a class.
+/// A handler of a class that can be read.
 #[derive(Drop)]
 pub struct ReadRow {
     pub class: Class,
@@ -55,7 +58,8 @@ pub struct ReadRow {
 }
 
 impl ReadRow {
-    /// Stores a call, which answers the handler of that name on every element of the class.
+    /// Stores a call. By the precondition it gives the value of the handler with that name, for
+    /// every element of the class.
     pub fn new(class: Class, name: Vec<u8>, call: ReadCall) -> ReadRow
         requires { AnswersReads (pre call) (post call) class name.items }
         ensures class { result.class ≡ class }
@@ -107,10 +111,10 @@ fn read_through(
     call(alloc, element, text)
 }
 
-/// A call that writes: it takes the element with a text, and gives it back.
+/// A call that writes a handler. It takes the element and a text, and returns the element.
 pub type WriteCall = Box<dyn Fn(Global, Element, &[u8]) -> Written + Send>;
 
-/// A write handler of a class.
+/// A handler of a class that can be written.
 #[derive(Drop)]
 pub struct WriteRow {
     pub class: Class,
@@ -120,7 +124,8 @@ pub struct WriteRow {
 }
 
 impl WriteRow {
-    /// Stores a call, which does what the handler of that name does on every element of the class.
+    /// Stores a call. By the precondition it does what a write of the handler with that name does,
+    /// for every element of the class.
     pub fn new(class: Class, name: Vec<u8>, call: WriteCall) -> WriteRow
         requires { AnswersWrites (pre call) (post call) class name.items }
         ensures class { result.class ≡ class }
@@ -162,7 +167,7 @@ fn write_through(call: &WriteCall, alloc: Global, element: Element, text: &[u8])
     call(alloc, element, text)
 }
 
-/// Stores a call as the next read row.
+/// Appends a row for a read handler.
 pub fn add_read(
     rows: &mut Vec<ReadRow>,
     alloc: Global,
@@ -178,7 +183,7 @@ pub fn add_read(
     Ok(())
 }
 
-/// Stores a call as the next write row.
+/// Appends a row for a write handler.
 pub fn add_write(
     rows: &mut Vec<WriteRow>,
     alloc: Global,

@@ -9,7 +9,7 @@ use crate::names::HANDLED;
 use crate::rows::{Listed, ReadRow, WriteRow};
 use click_base::Class;
 
-/// The rows of all handlers, in their order.
+/// The rows of all handlers, in order.
 #[derive(Drop)]
 pub struct Table {
     reads: Vec<ReadRow>,
@@ -18,7 +18,7 @@ pub struct Table {
     ghost writes_listed: { map (λ r. of_class r.class r.name.items) writes.items ≡ write_names },
 }
 
-/// The rows behind those of a class's names, which have to come first.
+/// Returns the rows after those of a class's names, if the rows begin with these in order.
 fn behind<'a, R: Listed>(rows: &'a [R], class: Class, names: &[&[u8]]) -> Option<&'a [R]>
     ensures some { IfSome result (λ rest. map R.handler rows.now ≡ map (λ n. of_class class n.now) names.now ++ map R.handler rest.now) }
     ensures none { IfNone result ((more : List HandlerName) → map R.handler rows.now ≡ map (λ n. of_class class n.now) names.now ++ more → ⊥) }
@@ -34,7 +34,7 @@ fn behind<'a, R: Listed>(rows: &'a [R], class: Class, names: &[&[u8]]) -> Option
     Some(rest)
 }
 
-/// Whether the rows are the handlers of the classes in their order.
+/// Returns whether the rows are the handlers of the classes, in order.
 fn are_listed<R: Listed>(rows: &[R]) -> bool
     ensures { IsTrue result ↔ (map R.handler rows.now ≡ names_by R.names handled) }
 {
@@ -48,7 +48,7 @@ fn are_listed<R: Listed>(rows: &[R]) -> bool
     rest.is_empty()
 }
 
-/// The row of a class's handler of that name.
+/// Returns the row of a class's handler with that name.
 fn row_of<'a, R: Listed>(rows: &'a [R], class: Class, name: &[u8]) -> Option<&'a R>
     requires { map R.handler rows.now ≡ names_by R.names handled }
     ensures there { is_some result ≡ list_any (is_named class name.now) (names_by R.names handled) }
@@ -63,7 +63,7 @@ fn row_of<'a, R: Listed>(rows: &'a [R], class: Class, name: &[u8]) -> Option<&'a
 }
 
 impl Table {
-    /// The table of these rows, which have to be the handlers of the classes in their order.
+    /// Makes a table of rows, which must be the handlers of the classes, in order.
     #[tactic(auto, unfolding(crate::specs::Names::read_names, crate::specs::Names::write_names))]
     pub fn new(reads: Vec<ReadRow>, writes: Vec<WriteRow>) -> Result<Table, TableFault>
         ensures { IsOk result ↔ ((map (λ r. of_class r.class r.name.items) reads.items ≡ read_names)
@@ -76,7 +76,7 @@ impl Table {
         }
     }
 
-    /// The table of rows that are known to be those of the list.
+    /// Makes a table of rows that are known to be the handlers of the classes, in order.
     pub(crate) fn of_all(reads: Vec<ReadRow>, writes: Vec<WriteRow>) -> Table
         requires reads { map (λ r. of_class r.class r.name.items) reads.items ≡ read_names }
         requires writes { map (λ r. of_class r.class r.name.items) writes.items ≡ write_names }
@@ -84,7 +84,7 @@ impl Table {
         Table { reads, writes }
     }
 
-    /// The row of a class's read handler.
+    /// Returns the row of a class's read handler.
     #[tactic(auto, unfolding(crate::specs::Names::read_names))]
     pub fn read(&self, class: Class, name: &[u8]) -> Option<&ReadRow>
         ensures there { is_some result ≡ has_read class name.now }
@@ -93,7 +93,7 @@ impl Table {
         row_of(&self.reads, class, name)
     }
 
-    /// The row of a class's write handler.
+    /// Returns the row of a class's write handler.
     #[tactic(auto, unfolding(crate::specs::Names::write_names))]
     pub fn write(&self, class: Class, name: &[u8]) -> Option<&WriteRow>
         ensures there { is_some result ≡ has_write class name.now }

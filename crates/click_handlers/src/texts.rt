@@ -1,4 +1,4 @@
-//! What handlers read and write, as texts.
+//! The texts that handlers read and write.
 
 ghost use Rattle.std.specs.Prelude.{◌≡◌, ◌≢◌, ◌≤◌, ◌++◌, codes, decimal, IfOk, IfErr, OnOk};
 ghost use Rattle.click_handlers.specs.Reads.{truth_text, port_text, dotted, gateway_text, route_text};
@@ -9,7 +9,7 @@ use click_classes::{ArgFault, Entry, decimal_number, truth};
 use itoa::Buffer;
 use std::alloc::{AllocError, Global};
 
-/// A number in decimal digits.
+/// Returns a number in decimal digits.
 pub(crate) fn number_text(alloc: Global, number: u64) -> Result<Vec<u8>, HandlerFault>
     ensures text { IfOk result (λ text. text.items ≡ decimal number) }
     ensures memory { IfErr result (λ fault. fault ≡ HandlerFault.NoMemory) }
@@ -18,7 +18,7 @@ pub(crate) fn number_text(alloc: Global, number: u64) -> Result<Vec<u8>, Handler
     bytes_text(alloc, buffer.format(number).as_bytes())
 }
 
-/// A copy of these bytes.
+/// Returns a copy of the bytes.
 fn bytes_text(alloc: Global, bytes: &[u8]) -> Result<Vec<u8>, HandlerFault>
     ensures text { IfOk result (λ text. text.items ≡ bytes.now) }
     ensures memory { IfErr result (λ fault. fault ≡ HandlerFault.NoMemory) }
@@ -29,7 +29,7 @@ fn bytes_text(alloc: Global, bytes: &[u8]) -> Result<Vec<u8>, HandlerFault>
     }
 }
 
-/// `true` or `false`.
+/// Returns `true` or `false` as text.
 pub(crate) fn truth_text(alloc: Global, truth: bool) -> Result<Vec<u8>, HandlerFault>
     ensures text { IfOk result (λ text. text.items ≡ truth_text truth) }
     ensures memory { IfErr result (λ fault. fault ≡ HandlerFault.NoMemory) }
@@ -41,7 +41,7 @@ pub(crate) fn truth_text(alloc: Global, truth: bool) -> Result<Vec<u8>, HandlerF
     }
 }
 
-/// The port that a switch uses, `-1` for none.
+/// Returns the port that a switch uses, or `-1` for none, as text.
 pub(crate) fn port_text(alloc: Global, port: Option<u8>) -> Result<Vec<u8>, HandlerFault>
     ensures text { IfOk result (λ text. text.items ≡ port_text port) }
     ensures memory { IfErr result (λ fault. fault ≡ HandlerFault.NoMemory) }
@@ -52,7 +52,7 @@ pub(crate) fn port_text(alloc: Global, port: Option<u8>) -> Result<Vec<u8>, Hand
     }
 }
 
-/// Adds a number in decimal digits.
+/// Appends a number in decimal digits.
 fn push_decimal(text: &mut Vec<u8>, number: u8) -> Result<(), AllocError>
     ensures { OnOk result (text.new.items ≡ text.old.items ++ decimal number) }
 {
@@ -61,7 +61,7 @@ fn push_decimal(text: &mut Vec<u8>, number: u8) -> Result<(), AllocError>
     Ok(())
 }
 
-/// Adds an address: four numbers with dots between them.
+/// Appends an address: four numbers with dots between them.
 pub fn push_dotted(text: &mut Vec<u8>, address: [u8; 4]) -> Result<(), AllocError>
     ensures { OnOk result (text.new.items ≡ text.old.items ++ dotted address) }
 {
@@ -75,7 +75,7 @@ pub fn push_dotted(text: &mut Vec<u8>, address: [u8; 4]) -> Result<(), AllocErro
     push_decimal(text, fourth)
 }
 
-/// Writes the gateway of an entry behind a space, if it has one.
+/// Appends the gateway of an entry after a space, if it has one.
 fn push_gateway(text: &mut Vec<u8>, gateway: Option<[u8; 4]>) -> Result<(), AllocError>
     ensures { OnOk result (text.new.items ≡ text.old.items ++ gateway_text gateway) }
 {
@@ -88,7 +88,7 @@ fn push_gateway(text: &mut Vec<u8>, gateway: Option<[u8; 4]>) -> Result<(), Allo
     }
 }
 
-/// The output of an entry, and its gateway.
+/// Returns the output of an entry and its gateway, as text.
 fn entry_text(alloc: Global, entry: Entry) -> Result<Vec<u8>, AllocError>
     ensures { IfOk result (λ text. text.items ≡ decimal entry.output ++ gateway_text entry.gateway) }
 {
@@ -98,7 +98,7 @@ fn entry_text(alloc: Global, entry: Entry) -> Result<Vec<u8>, AllocError>
     Ok(text)
 }
 
-/// Where an address is sent, `-1` for nowhere.
+/// Returns the output and the gateway of an entry, or `-1` for no entry, as text.
 pub(crate) fn route_text(alloc: Global, entry: Option<Entry>) -> Result<Vec<u8>, HandlerFault>
     ensures text { IfOk result (λ text. text.items ≡ route_text entry) }
     ensures memory { IfErr result (λ fault. fault ≡ HandlerFault.NoMemory) }
@@ -112,7 +112,7 @@ pub(crate) fn route_text(alloc: Global, entry: Option<Entry>) -> Result<Vec<u8>,
     }
 }
 
-/// A number from `low` to `high` in decimal digits alone.
+/// Parses a number from `low` to `high` in decimal digits only.
 pub(crate) fn number_from(text: &[u8], low: u64, high: u64) -> Result<u64, HandlerFault>
     ensures value { result ≡ number_from low high text.now }
     ensures bound { IfOk result (λ n. n ≤ high) }
@@ -125,7 +125,7 @@ pub(crate) fn number_from(text: &[u8], low: u64, high: u64) -> Result<u64, Handl
     }
 }
 
-/// `-1`, which is None, or a port below a number of ports.
+/// Parses `-1`, which is `None`, or a port below the number of ports.
 pub(crate) fn written_port(text: &[u8], ports: u16) -> Result<Option<u8>, HandlerFault>
     ensures value { result ≡ written_port ports text.now }
     ensures memory { IfErr result (λ fault. fault ≢ HandlerFault.NoMemory) }
@@ -141,7 +141,7 @@ pub(crate) fn written_port(text: &[u8], ports: u16) -> Result<Option<u8>, Handle
     }
 }
 
-/// A truth value.
+/// Parses a truth value.
 pub(crate) fn written_flag(text: &[u8]) -> Result<bool, HandlerFault>
     ensures value { result ≡ written_flag text.now }
     ensures memory { IfErr result (λ fault. fault ≢ HandlerFault.NoMemory) }

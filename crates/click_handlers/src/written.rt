@@ -1,18 +1,18 @@
-//! What a write leaves.
+//! The result of a write.
 
 ghost use Rattle.std.specs.Prelude.{◌≡◌, None, Some};
 
 use crate::fault::HandlerFault;
 use click_engine::Element;
 
-/// The element after a write. With a fault it is the one that was handed in.
+/// An element after a write. If there is a fault, it is the unchanged element.
 #[derive(Drop)]
 pub struct Written {
     pub element: Element,
     pub fault: Option<HandlerFault>,
 }
 
-/// The write is done.
+/// Returns the result of a successful write.
 pub(crate) fn done(element: Element) -> Written
     ensures { result ≡ record { element = element; fault = None } }
 {
@@ -22,7 +22,7 @@ pub(crate) fn done(element: Element) -> Written
     }
 }
 
-/// The write is refused.
+/// Returns the result of a refused write.
 pub(crate) fn refused(element: Element, fault: HandlerFault) -> Written
     ensures { result ≡ record { element = element; fault = Some fault } }
 {

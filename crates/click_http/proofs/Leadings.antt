@@ -1,4 +1,4 @@
--- Stretches of calls follow one another.
+-- Lemmas on sequences of calls that follow one another.
 use Rattle.std.proofs.Common.{◌≡◌, ℕ, List, [], ◌∷◌, ◌++◌, refl, sym, subst, append-nil}
 use Rattle.std.proofs.lemmas.Grind.{flat_map-append}
 use Rattle.std.proofs.lemmas.List.Elements.{All-nil, All-cons, All-append}
@@ -18,7 +18,7 @@ module _ {S : Type 0} (answers : S → Request (List ℕ) → Response → S →
   pub leads_none : (a : S) → Leads answers a a
   leads_none a = record { stretches = []; each = All-nil IsStretch; chain = refl }
 
-  -- one stretch after another
+  -- one sequence of calls, and then another
   pub leads_then : (a b c : S) → Leads answers a b → Leads answers b c → Leads answers a c
   leads_then a b c x y = record {
     stretches = x.stretches ++ y.stretches;

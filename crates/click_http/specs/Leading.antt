@@ -1,4 +1,4 @@
--- By what a server leads its service, and what was opened for it.
+-- The calls that led a service from one state to another, and the listener.
 use Rattle.std.specs.Prelude.{◌≡◌, ℕ, List, ◌++◌, flat_map, All}
 use Rattle.http.specs.declared.request.Request.{Request}
 use Rattle.http_server.specs.declared.response.Response.{Response}
@@ -19,13 +19,14 @@ page_config = record {
   read_size = 8192;
 }
 
--- Calls that a connection made one after another, after earlier ones, and what it had done by then.
+-- A sequence of calls by one connection, the calls by it before them, and all that it had done
+-- afterwards.
 pub record Stretch : Type 0 where
   pub earlier : List Call
   pub calls : List Call
   pub after : History
 
--- They are the last that the connection made, and all that it made is answered as HTTP has it.
+-- The calls are the last ones of the connection, and all that it had done is as HTTP requires.
 pub record IsStretch (s : Stretch) : Type 0 where
   pub served : ∥ IsServed page_config s.after ∥₁
   pub made : s.after.calls ≡ s.earlier ++ s.calls
@@ -33,7 +34,8 @@ pub record IsStretch (s : Stretch) : Type 0 where
 abbrev pub calls_of : List Stretch → List Call
 calls_of stretches = flat_map (λ s. s.calls) stretches
 
--- The service was led from one state to the other by calls that connections made, and by nothing else.
+-- The service was led from one state to the other by calls that connections made, and by nothing
+-- else.
 pub record Leads {S : Type 0} (answers : S → Request (List ℕ) → Response → S → Type 0) (old new : S) : Type 0 where
   pub stretches : List Stretch
   pub each : All IsStretch stretches

@@ -1,4 +1,4 @@
-//! Whether a listener is asked for connections.
+//! Whether the listener is asked for connections.
 
 use crate::settings::tick;
 use std::io;
@@ -7,16 +7,17 @@ use std::time::Instant;
 
 #[derive(Clone, Copy, Debug, PartialEq, Eq)]
 pub(crate) enum AcceptState {
-    /// Some may wait.
+    /// Connections may be waiting.
     Open,
-    /// None waits, until the system reports one.
+    /// No connection waits, until the system reports one.
     Quiet,
-    /// The system could give none, as where it is short of descriptors. It reports nothing new then, so it is asked again after a while.
+    /// The system failed to return a connection at this time, for example because it is short of
+    /// descriptors. It reports nothing new in this case, so it is asked again after one tick.
     Shut(Instant),
 }
 
 impl AcceptState {
-    /// After a connection could not be taken.
+    /// Returns the state after the system returned no connection.
     pub(crate) fn after(fault: &io::Error, now: Instant) -> AcceptState {
         match fault.kind() {
             ErrorKind::WouldBlock => AcceptState::Quiet,
@@ -25,7 +26,7 @@ impl AcceptState {
         }
     }
 
-    /// As it is now.
+    /// Returns the state at a later time.
     pub(crate) fn at(self, now: Instant) -> AcceptState {
         match self {
             AcceptState::Shut(since) if now.duration_since(since) >= tick() => AcceptState::Open,

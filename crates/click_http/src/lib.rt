@@ -1,4 +1,4 @@
-//! A page over HTTP: a server of many connections on one thread, and no other.
+//! An HTTP server for a page: many connections on one thread.
 #![tactic(auto)]
 
 mod accept_state;

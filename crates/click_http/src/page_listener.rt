@@ -1,4 +1,4 @@
-//! What is opened before anything is served.
+//! The listener, and all else that is opened before anything is served.
 
 ghost use Rattle.std.specs.Prelude.{◌≡◌, ◌<◌, length, IfOk, IfSome};
 
@@ -15,16 +15,18 @@ use std::net::{Ipv4Addr, Net, SocketAddr, SocketAddrV4};
 use std::random::RandomSource;
 use std::time::{Duration, Instant};
 
-/// The token of the listener. Those of the connections are their places.
+/// The token of the listener. The token of a connection is the index of its slot.
 const LISTENER: usize = PLACES;
 
-/// As many events as there are sources, and more.
+/// The maximum number of events that the system reports at once. It is more than there are sockets.
 const EVENTS: usize = 64;
 
-/// The most connections that are taken in one round.
+/// The maximum number of connections that are accepted in one round.
 const MOST_TAKEN: u32 = 64;
 
-/// A listener on this host alone, and the places of its connections. No memory but that of the connections is taken later.
+/// A listener on this machine only, with the slots of its connections.
+///
+/// After it is opened, only connections allocate memory.
 #[derive(Drop)]
 pub struct PageListener {
     port: u16,
@@ -44,7 +46,7 @@ impl Model for PageListener {
     ghost view = { λ f. record { port = f.port } };
 }
 
-/// The place that is free first.
+/// Returns the index of the first free slot.
 fn free_place(places: &[Option<Peer>]) -> Option<usize>
     ensures { IfSome result (λ place. place < length places.now) }
 {
@@ -60,19 +62,19 @@ fn empty_places(alloc: Global) -> Result<Vec<Option<Peer>>, AllocError> {
 }
 
 impl PageListener {
-    /// The port that was asked for.
+    /// Returns the port that was asked for.
     pub fn port(&self) -> u16
         ensures { result ≡ self.now.port }
     {
         self.port
     }
 
-    /// Where the listener is, by the system: where port 0 was asked for, it chose one.
+    /// Returns the address of the listener. If port 0 was asked for, the system chose the port.
     pub fn local_addr(&self) -> io::Result<SocketAddr> {
         self.listener.local_addr()
     }
 
-    /// How long the system is waited for: not at all while there is something to do.
+    /// Returns how long to wait for the system: not at all while there is something to do.
     fn pause(&self) -> Duration {
         let ready = |place: &Option<Peer>| place.as_ref().is_some_and(|peer| peer.is_ready());
         if self.accept_state.is_open() || self.places.iter().any(ready) {
@@ -82,7 +84,7 @@ impl PageListener {
         }
     }
 
-    /// Waits until the system reports a socket, or a while is over, and notes what it reports.
+    /// Blocks until the system reports a socket or one tick is over, and records what it reports.
     pub(crate) fn wait(&mut self) -> io::Result<()>
         ensures { self.new.port ≡ self.old.port }
     {
@@ -100,7 +102,7 @@ impl PageListener {
         Ok(())
     }
 
-    /// Gives the connection a place, or refuses it.
+    /// Gives a connection a free slot, or refuses it.
     fn admit(&mut self, alloc: Global, stream: TcpStream, now: Instant)
         ensures { self.new.port ≡ self.old.port }
     {
@@ -108,7 +110,8 @@ impl PageListener {
         let Some(place) = free_place(&self.places) else {
             return refuse(stream);
         };
-        // Without it an answer in two pieces would wait for the peer's system.
+        // Without it, the second part of a response would be held back until the peer acknowledges
+        // the first.
         let _ = stream.set_nodelay(true);
         let both = Interest::READABLE | Interest::WRITABLE;
         let registered = self
@@ -120,7 +123,7 @@ impl PageListener {
         }
     }
 
-    /// Takes the connections that wait, a round's share of them at most.
+    /// Accepts the connections that wait, up to the maximum of one round.
     pub(crate) fn accept_connections(&mut self, alloc: Global, now: Instant)
         ensures { self.new.port ≡ self.old.port }
     {
@@ -137,7 +140,9 @@ impl PageListener {
     }
 }
 
-/// Listens on the port of 127.0.0.1, and nowhere else. At port 0 the system chooses one. That the system listens there is in no clause.
+/// Listens on this port of 127.0.0.1 only. For port 0 the system chooses a port.
+///
+/// No contract says that the system listens there.
 pub fn open_page_listener<R: Net + RandomSource>(
     rt: &R,
     alloc: Global,

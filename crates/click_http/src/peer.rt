@@ -1,4 +1,4 @@
-//! One connection with its socket.
+//! One connection, with its socket.
 
 ghost use Rattle.std.specs.Prelude.{◌≡◌};
 ghost use Rattle.http_server.specs.Connection.{config_of};
@@ -15,35 +15,35 @@ use std::io::{ErrorKind, Read, Write};
 use std::net::Shutdown;
 use std::time::Instant;
 
-/// The most steps of one connection before the next has its turn.
+/// The maximum number of steps of one connection before the next one has its turn.
 const STEPS: u32 = 6;
 
-/// How much of what is dropped is read at once.
+/// The number of bytes that are read and dropped at once.
 const SCRATCH: usize = 4096;
 
-/// What asks a peer to go on with its request, which is no answer yet.
+/// The interim response that asks a peer to send the rest of its request.
 const CONTINUE: &[u8] = b"HTTP/1.1 100 Continue\r\n\r\n";
 
-/// To a peer whose request took too long.
+/// The response to a peer whose request took too long.
 const OVERDUE: &[u8] =
     b"HTTP/1.1 408 Request Timeout\r\ncontent-length: 0\r\nconnection: close\r\n\r\n";
 
-/// To a peer that found all places taken.
+/// The response to a peer that found no free slot.
 const FULL: &[u8] =
     b"HTTP/1.1 503 Service Unavailable\r\ncontent-length: 0\r\nconnection: close\r\n\r\n";
 
-/// What a step left to do.
+/// The outcome of a step.
 #[derive(Clone, Copy, Debug, PartialEq, Eq)]
 enum Step {
-    /// There may be more to do at once.
+    /// More may be possible without waiting.
     More,
-    /// It goes on when the system reports the socket.
+    /// The next step has to wait until the system reports the socket.
     Wait,
-    /// The connection is to be closed.
+    /// The connection has to be closed.
     Over,
 }
 
-/// After a read or a write that took nothing: whether it is to be tried again, waits, or has failed for good.
+/// Returns the outcome of a step whose read or write failed.
 fn step_after(fault: &io::Error) -> Step {
     match fault.kind() {
         ErrorKind::WouldBlock => Step::Wait,
@@ -52,19 +52,23 @@ fn step_after(fault: &io::Error) -> Step {
     }
 }
 
-/// A connection that was accepted. What is pending is written before more is read, so that what is read while nothing is pending belongs to a request with no answer yet.
+/// An accepted connection.
+///
+/// Pending output is written before more is read. So what is read while nothing is pending belongs
+/// to a request that has no response yet.
 #[derive(Drop)]
 pub(crate) struct Peer {
     stream: TcpStream,
     connection: Connection,
     phase: Phase,
-    /// When the phase began, or the peer last took a piece of what is sent.
+    /// The time when the phase began, or when the peer last took a part of the output.
     since: Instant,
-    /// A read may give something. The system reports a change alone, so this stays until a read would wait.
+    /// Whether a read may succeed. The system reports changes only, so this stays true until a read
+    /// would block.
     readable: bool,
-    /// So of a write.
+    /// Whether a write may succeed; it stays true until a write would block.
     writable: bool,
-    /// The peer sends no more.
+    /// Whether the peer has ended its output.
     ended: bool,
     ghost limits: { config_of connection ≡ page_config },
 }
@@ -82,13 +86,13 @@ impl Peer {
         }
     }
 
-    /// The system reported the socket.
+    /// Records that the system reported the socket.
     pub(crate) fn wake(&mut self, readable: bool, writable: bool) {
         self.readable = self.readable || readable;
         self.writable = self.writable || writable;
     }
 
-    /// Whether a step would do something at once.
+    /// Returns whether a step would do something without waiting.
     pub(crate) fn is_ready(&self) -> bool {
         if self.phase == Phase::HalfClosed {
             self.readable
@@ -104,12 +108,12 @@ impl Peer {
         self.since = now;
     }
 
-    /// Whether an answer is pending. The request to go on is none.
+    /// Returns whether a response is pending. The interim response does not count.
     fn has_answer(&self) -> bool {
         self.connection.wants_write() && self.connection.output() != CONTINUE
     }
 
-    /// After so many bytes came: none is the end.
+    /// Records that a read returned this number of bytes. 0 means the end of the input.
     fn note_read(&mut self, count: usize, now: Instant) {
         if count == 0 {
             self.ended = true;
@@ -118,7 +122,7 @@ impl Peer {
         }
     }
 
-    /// After the service was called, where there was something to answer.
+    /// Records that the service was called, if there was a request to answer.
     fn note_called(&mut self, now: Instant) {
         if self.has_answer() {
             self.enter(Phase::Sending, now);
@@ -127,7 +131,7 @@ impl Peer {
         }
     }
 
-    /// Writes once what is pending.
+    /// Writes pending output once.
     fn write<S: Service>(&mut self, service: &mut S, now: Instant) -> Step
         ensures { Leads S.answers service.old service.new }
     {
@@ -146,7 +150,7 @@ impl Peer {
         }
     }
 
-    /// Reads once, and has the service answer what was read.
+    /// Reads once, and has the service answer the requests that were read.
     fn read<S: Service>(&mut self, service: &mut S, now: Instant) -> Step
         ensures { Leads S.answers service.old service.new }
     {
@@ -165,7 +169,8 @@ impl Peer {
         }
     }
 
-    /// Ends the output, after which the peer may still send, so that it can read all that it was sent before the connection is closed.
+    /// Ends the output. The peer may still send, so that it can read the whole response before the
+    /// connection is closed.
     fn shut_output(&mut self, now: Instant) -> Step {
         if self.ended || self.stream.shutdown(Shutdown::Write).is_err() {
             Step::Over
@@ -175,7 +180,7 @@ impl Peer {
         }
     }
 
-    /// Reads once, and drops it.
+    /// Reads once, and drops what was read.
     fn drain(&mut self) -> Step {
         let mut scratch = [0u8; SCRATCH];
         match self.stream.read(&mut scratch) {
@@ -205,7 +210,8 @@ impl Peer {
         }
     }
 
-    /// Reads, answers and writes as far as the socket goes, but no more than a few steps. Says whether the connection lasts.
+    /// Reads, answers and writes until the socket would block, or up to the maximum number of
+    /// steps. Returns whether the connection continues.
     pub(crate) fn turn<S: Service>(&mut self, service: &mut S, now: Instant) -> bool
         ensures { Leads S.answers service.old service.new }
     {
@@ -219,7 +225,10 @@ impl Peer {
         true
     }
 
-    /// Gives up what has lasted too long. Says whether the connection lasts: where a request was begun, the peer is told.
+    /// Checks the time limit of the phase. Returns whether the connection continues.
+    ///
+    /// If the limit is exceeded while a request is incomplete and no output is pending, sends
+    /// status 408 and ends the output.
     pub(crate) fn is_in_time(&mut self, now: Instant) -> bool {
         if now.duration_since(self.since) < self.phase.limit() {
             return true;
@@ -231,7 +240,7 @@ impl Peer {
         told.is_ok() && self.shut_output(now) != Step::Over
     }
 
-    /// Writes once what is pending, before the connection is closed.
+    /// Writes pending output once, before the connection is closed.
     pub(crate) fn write_last(&mut self) {
         if self.connection.wants_write() {
             let _ = self.connection.write_to(&mut self.stream);
@@ -239,7 +248,9 @@ impl Peer {
     }
 }
 
-/// Tells the peer that all places are taken. What it has sent by then is read, since a socket that is closed over it could lose the answer.
+/// Responds to a peer that all slots are taken.
+///
+/// Reads what the peer has sent so far: closing a socket with unread input could lose the response.
 pub(crate) fn refuse(stream: TcpStream) {
     let mut stream = stream;
     let mut scratch = [0u8; SCRATCH];

@@ -1,21 +1,23 @@
-//! What a connection waits for.
+//! The phases of a connection.
 
 use std::time::Duration;
 
 #[derive(Clone, Copy, Debug, PartialEq, Eq)]
 pub(crate) enum Phase {
-    /// For a request.
+    /// It waits for a request.
     Idle,
-    /// For the rest of a request, whose first bytes came.
+    /// It waits for the rest of a request, whose first bytes have come.
     Begun,
-    /// For the peer to take what is written.
+    /// It waits for the peer to take the output.
     Sending,
-    /// For the peer to close too: it was sent all that it gets, and what it still sends is dropped.
+    /// It waits for the peer to close too. All output was sent, and what the peer still sends is
+    /// dropped.
     HalfClosed,
 }
 
 impl Phase {
-    /// The longest that it may last. While something is sent, it begins again with each piece that the peer took.
+    /// Returns the maximum duration of the phase. In `Sending` it starts again with each part that
+    /// the peer takes.
     pub(crate) fn limit(self) -> Duration {
         match self {
             Phase::Idle => Duration::from_secs(75),

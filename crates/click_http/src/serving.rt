@@ -14,16 +14,17 @@ use std::sync::Wait;
 use std::sync::atomic::{AtomicBool, Ordering};
 use std::time::{Clock, Instant};
 
-/// Why a server ended.
+/// The reason why a server ended.
 #[derive(Clone, Copy, Debug, PartialEq, Eq)]
 pub enum Ended {
-    /// It was told to stop.
+    /// `stop` was set.
     Stopped,
-    /// The system can wait for sockets no more, or tell the time.
+    /// The system failed to wait for sockets or to read the clock.
     Failed(ErrorKind),
 }
 
-/// One turn of the connection at a place, which is free afterwards where the connection ended or was overdue.
+/// Gives the connection in a slot its turn. If it has ended or exceeded its time, the slot is free
+/// then.
 fn serve_place<S: Service>(place: &mut Option<Peer>, service: &mut S, now: Instant)
     ensures { Leads S.answers service.old service.new }
 {
@@ -36,7 +37,7 @@ fn serve_place<S: Service>(place: &mut Option<Peer>, service: &mut S, now: Insta
     }
 }
 
-/// One turn of each connection.
+/// Gives each connection its turn.
 fn serve_places<S: Service, C: Clock>(
     clock: &C,
     places: &mut [Option<Peer>],
@@ -51,7 +52,7 @@ fn serve_places<S: Service, C: Clock>(
     Ok(())
 }
 
-/// Waits for sockets, and has one turn of each connection. Those that are done make room before new ones are taken.
+/// Waits for sockets, gives each connection its turn, and then accepts new ones into free slots.
 fn serve_round<S: Service, C: Clock>(
     clock: &C,
     alloc: Global,
@@ -66,9 +67,14 @@ fn serve_round<S: Service, C: Clock>(
     Ok(())
 }
 
-/// Serves until `stop` is set, which it sees within 100 milliseconds where the service answers in less, or the system fails. Then what is pending is written once more, as far as it goes
-/// at once, and all is closed. Whatever connections come, in whatever order they are ready, the service is led by the requests that were read of them, each of which it answered, and by
-/// nothing else. Want of memory costs a connection, and never the server.
+/// Serves until `stop` is set or the system fails.
+///
+/// It sees `stop` within 100 milliseconds if the service takes less time than this. At the end it
+/// writes pending output once more, without blocking, and closes all connections.
+///
+/// The service is called only with requests that were read, each of which it answered, and nothing
+/// else changes it. This holds whatever connections come, and in whatever order they are ready. Out
+/// of memory ends a connection, but never the server.
 pub fn serve_until<S: Service, R: Wait, C: Clock>(
     rt: &R,
     clock: &C,
@@ -94,7 +100,7 @@ pub fn serve_until<S: Service, R: Wait, C: Clock>(
     unreachable!()
 }
 
-/// Writes once what is pending on each connection, and closes all.
+/// Writes pending output of each connection once, and closes all.
 fn close(page_listener: PageListener) {
     let mut page_listener = page_listener;
     for place in page_listener.places.iter_mut() {

@@ -1,4 +1,4 @@
-//! How many connections there may be, and what each may ask.
+//! The number of connections, and the limits of each.
 
 ghost use Rattle.std.specs.Prelude.{◌≡◌};
 ghost use Rattle.click_http.specs.Leading.{page_config};
@@ -6,16 +6,21 @@ ghost use Rattle.click_http.specs.Leading.{page_config};
 use http_server::Config;
 use std::time::Duration;
 
-/// How many connections there may be at once. A further one is refused with 503.
+/// The maximum number of connections at the same time. A further one is refused with status 503.
 pub const PLACES: usize = 32;
 
-/// The longest that a server sleeps, so that it sees that it is to stop, and that a connection is overdue.
+/// Returns the maximum duration of a sleep, after which the server checks `stop` and the time
+/// limits.
 pub(crate) fn tick() -> Duration {
     Duration::from_millis(100)
 }
 
-/// The limits of each connection: a head of 65,536 bytes, and a body of 1,048,576. It answers one request at a time, and the next once that answer was taken: so a peer that sends
-/// many at once has the service no longer than others do.
+/// Returns the limits of each connection: a head of at most 65,536 bytes and a body of at most
+/// 1,048,576.
+///
+/// A connection answers one request at a time, and the next one only after the peer took that
+/// response. So a peer that sends many requests at once does not occupy the service for longer than
+/// others.
 pub(crate) fn page_limits() -> Config
     ensures { result ≡ page_config }
 {

@@ -1,4 +1,4 @@
--- What stands before the first byte of a kind, and behind it.
+-- Lemmas about the text before and after the first occurrence of a byte.
 use Rattle.std.proofs.Common.{◌≡◌, ◌⊎◌, ℕ, ◌+◌, ◌<◌, ◌≤◌, ◌==◌, Bool, true, false, not, List, [], ◌∷◌, ◌++◌, length, take, drop, slice_index, zero, suc, refl, sym, ap, ◌∙◌, inl, inr, arith}
 use Rattle.std.proofs.lemmas.Bool.{and_parts}
 use Rattle.std.proofs.lemmas.List.{append-nil}
@@ -38,7 +38,7 @@ after-at c (b ∷ x) y h =
     let parts = and_parts (not (b == c)) (lacks c x) h in
     rw (not_false (b == c) parts.0) (after-at c x y parts.1)
 
--- ---- by the place of the byte
+-- ---- by the index of the byte
 
 other_false : (b c : ℕ) → ((b == c) ≡ true → ⊥) → (b == c) ≡ false
 other_false b c h = grind (arith, h)
@@ -79,14 +79,14 @@ shorter c b x = elim (by_test (b == c)) [
   | inr f ↦ rw f (let more = at_most c x in omega (arith, more))
 ]
 
--- what is cut off has a byte fewer at the least
+-- the text after the byte is shorter by at least one byte
 pub after-shorter : (c : ℕ) (x : List ℕ) → 0 < length x → length (after c x) < length x
 after-shorter c [] lt = absurd (omega (arith, lt))
 after-shorter c (b ∷ x) lt = shorter c b x
 
 -- ---- joined parts
 
--- the first part is what stands before the byte, and the others joined what stands behind it
+-- the first part is the text before the byte, and the text after it is the other parts
 pub first_part : (c : ℕ) (f : List ℕ) (fs : List (List ℕ)) → lacks c f ≡ true → (before c (joined c (f ∷ fs)) ≡ f) × (after c (joined c (f ∷ fs)) ≡ joined c fs)
 first_part c f [] h = (rw (append-nil f) (before-lacks c f h), rw (append-nil f) (after-lacks c f h))
 first_part c f (g ∷ gs) h = (before-at c f (g ++ behind c gs) h, after-at c f (g ++ behind c gs) h)

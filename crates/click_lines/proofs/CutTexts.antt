@@ -1,9 +1,9 @@
--- Texts that are cut at a byte.
+-- Lemmas about texts that are cut at a byte.
 use Rattle.std.proofs.Common.{◌≡◌, ℕ, ◌==◌, Bool, true, false, not, ◌&&◌, List, [], ◌∷◌, ◌++◌, refl, sym, ◌∙◌}
 use Rattle.std.proofs.lemmas.Bool.{and_parts, and_from, ne_eqb, eq-eqb}
 use Rattle.click_lines.specs.Spelling.{behind, joined}
 
--- the text has no such byte
+-- the text does not contain the byte
 abbrev pub lacks : ℕ → List ℕ → Bool
 lacks c [] = true
 lacks c (b ∷ bs) = not (b == c) && lacks c bs
@@ -12,7 +12,7 @@ abbrev pub AllLack : ℕ → List (List ℕ) → Type 0
 AllLack c [] = Unit {0}
 AllLack c (f ∷ fs) = (lacks c f ≡ true) × AllLack c fs
 
--- the text is empty, or begins with the byte
+-- the text is empty or begins with the byte
 abbrev pub Begins : ℕ → List ℕ → Type 0
 Begins c [] = Unit {0}
 Begins c (b ∷ bs) = b ≡ c
@@ -42,7 +42,8 @@ clash : (c b : ℕ) (x y y' : List ℕ) → lacks c (b ∷ x) ≡ true → Begin
 clash c b x [] y' h begins e = cc
 clash c b x (a ∷ y) y' h begins e = let same : a ≡ b = cc in unlike b c (and_parts (not (b == c)) (lacks c x) h).0 (sym same ∙ begins)
 
--- Two texts without the byte are the same where each is followed by nothing or by the byte, and the whole is the same. So is what follows.
+-- Two texts without the byte, each followed by nothing or by the byte, are equal if the whole texts
+-- are. What follows them is equal too.
 pub cut_once : (c : ℕ) (x x' y y' : List ℕ) → lacks c x ≡ true → lacks c x' ≡ true → Begins c y → Begins c y' → x ++ y ≡ x' ++ y' → (x ≡ x') × (y ≡ y')
 cut_once c [] [] y y' h h' k k' e = (refl, e)
 cut_once c [] (b ∷ x') y y' h h' k k' e = absurd (clash c b x' y y' h' k e)
@@ -69,7 +70,7 @@ behind_once c (f ∷ fs) (g ∷ gs) h k e =
     let more : fs ≡ gs = behind_once c fs gs h.1 k.1 one.1 in
     cc
 
--- parts without the byte are known by what they are with it between them, one at least
+-- a list of one or more parts without the byte is determined by the text that joins them with it
 pub joined_once : (c : ℕ) (f g : List ℕ) (fs gs : List (List ℕ)) → AllLack c (f ∷ fs) → AllLack c (g ∷ gs) → joined c (f ∷ fs) ≡ joined c (g ∷ gs) → (f ≡ g) × (fs ≡ gs)
 joined_once c f g fs gs h k e =
     let one = cut_once c f g (behind c fs) (behind c gs) h.0 k.0 (begins c fs) (begins c gs) e in

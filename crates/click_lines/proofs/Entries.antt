@@ -1,4 +1,4 @@
--- A line is that of one seat, one call and one reply's text.
+-- A line determines the seat, the call and the text of the reply.
 use Rattle.std.proofs.Common.{◌≡◌, ℕ, ◌+◌, ◌*◌, ◌<◌, ◌==◌, true, false, List, [], ◌∷◌, length, slice_index, refl, sym, ap, ◌∙◌, arith, subst, codes}
 use Rattle.std.specs.Prelude.{decimal}
 use Rattle.std.proofs.lemmas.Fmt.{decimal_injective}
@@ -12,13 +12,14 @@ use Rattle.click_lines.proofs.CutTexts.{AllLack, joined_once, lacks, lacks-joine
 use Rattle.click_lines.proofs.Words.{lacks-decimal, lacks-escaped, spelled_once}
 use Rattle.click_lines.proofs.PacketWords.{lacks-packet, lacks-packets, packet_once, packets_once}
 
--- ---- which call a word is
+-- ---- the kind of a call, by its word
 
 abbrev pub first_word : List (List ℕ) → List ℕ
 first_word [] = []
 first_word (w ∷ ws) = w
 
--- by its first byte and its length, each call's word has a number of its own
+-- a number that the first byte and the length of a call's word determine, and that differs for each
+-- call
 abbrev pub number : List ℕ → ℕ
 number w = slice_index w 0 + 1000 * length w
 
@@ -63,7 +64,7 @@ is_of (call.Transmit device) = (device, refl)
 like : (c d : Call) → call_words c ≡ call_words d → IsOf (number (first_word (call_words c))) d
 like c d e = subst (λ (ws : List (List ℕ)). IsOf (number (first_word ws)) d) (sym e) (is_of d)
 
--- ---- one call
+-- ---- a line determines the call
 
 word_once : (a b : List ℕ) → AreBytes a → AreBytes b → word a ≡ word b → a ≡ b
 word_once a b h k e = spelled_once 33 a b h k e
@@ -129,7 +130,7 @@ calls_once (call.Transmit device) d h k e =
     let both = second (codes "transmit") (word device) (word v.0) [] [] (e ∙ ap call_words is) in
     ap (λ (x : List ℕ). call.Transmit x) (word_once device v.0 h (subst IsCallOfBytes is k) both.0) ∙ sym is
 
--- ---- one line
+-- ---- a line determines its content
 
 apart_32 : (d : ℕ) → d < 10 → 48 + d ≡ 32 → ⊥
 apart_32 d l e = omega (arith, l, e)
@@ -165,7 +166,7 @@ no_tabs (call.Poll device ps) h = (refl, (no_tab device h.0, (lacks-packets 9 ps
 no_tabs call.Round h = (refl, tt)
 no_tabs (call.Transmit device) h = (refl, (no_tab device h, tt))
 
--- the words of a call are one at least
+-- a call has at least one word
 some_words : (c : Call) → (w : List ℕ) × (ws : List (List ℕ)) × (call_words c ≡ w ∷ ws)
 some_words (call.Read name text) = (codes "read", word name ∷ word text ∷ [], refl)
 some_words (call.Write name text) = (codes "write", word name ∷ word text ∷ [], refl)

@@ -1,4 +1,4 @@
--- Calls and lines are read back.
+-- Calls and lines read back.
 use Rattle.std.proofs.Common.{◌≡◌, ℕ, ◌≤◌, Option, Some, Result, Ok, Err, List, [], ◌∷◌, length, refl, sym, ap, ◌∙◌, subst, arith}
 use Rattle.std.specs.Prelude.{◌==◌, IfOk, if◌then◌else◌, decimal}
 use Rattle.std.specs.List.{AllByRecursion}
@@ -61,7 +61,7 @@ cut_call c text h e =
     subst (λ (t : List ℕ). (before 32 t ≡ first_word (call_words c)) × (before 32 (after 32 t) ≡ second_word (call_words c)) × (after 32 (after 32 t) ≡ third_word (call_words c))) e
     (cut_words (call_words c) (no_blanks c h) (three c))
 
--- ---- which call it is
+-- ---- the kind of a call
 
 abbrev kind_at : ℕ → Kind
 kind_at n =
@@ -115,7 +115,7 @@ kind_first (call.Transmit device) = refl
 pub some_kind : (c : Call) (text : List ℕ) → IsCallOfBytes c → call_line c ≡ text → kind_word (kind_of c) ≡ before 32 text
 some_kind c text h e = kind_first c ∙ sym (cut_call c text h e).0
 
--- the bytes of a call's first word
+-- the bytes of a call's first word after that of its kind
 abbrev pub first_bytes : Call → List ℕ
 first_bytes (call.Read name text) = name
 first_bytes (call.Write name text) = name
@@ -138,7 +138,7 @@ are_first (call.Poll device ps) h = (h.0, refl)
 are_first call.Round h = (tt, refl)
 are_first (call.Transmit device) h = (h, refl)
 
--- of a call's line these are read
+-- these bytes are read from a call's line
 pub first_read : (c : Call) (text : List ℕ) (read : Option (List ℕ)) → IsCallOfBytes c → call_line c ≡ text → ReadsBytes (before 32 (after 32 text)) read → read ≡ Some (first_bytes c)
 first_read c text read h e reads = let f = are_first c h in reads 33 (first_bytes c) f.0 (f.1 ∙ sym (cut_call c text h e).1)
 
@@ -157,7 +157,7 @@ laid (call.Poll device ps) last h fit e = (ps, all_packets ps h.1 fit, e, refl)
 laid call.Round last h fit e = refl
 laid (call.Transmit device) last h fit e = refl
 
--- so a call's line is laid out as the call, whatever was read of it
+-- the line of a call has the words of the call, whatever was read from it
 pub laid_out : (c : Call) (k : Kind) (first text : List ℕ) → IsCallOfBytes c → HasPacketsThatFit c → call_line c ≡ text → kind_word k ≡ before 32 text
     → Some first ≡ Some (first_bytes c) → IsLaidOut k first (after 32 (after 32 text)) c
 laid_out c k first text h fit e is read =

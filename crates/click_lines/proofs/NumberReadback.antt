@@ -1,4 +1,4 @@
--- Numbers and packets are read back.
+-- Numbers and annotations read back.
 use Rattle.std.proofs.Common.{◌≡◌, ℕ, ◌<◌, ◌≤◌, ◌^◌, List, ◌∷◌, ◌++◌, length, Result, Ok, Err, sym, ap, ◌∙◌, arith}
 use Rattle.std.specs.Prelude.{decimal}
 use Rattle.click_classes.specs.Values.{address, decimal_number}
@@ -17,14 +17,14 @@ same_value r x y e f = let both : Ok x ≡ Ok y = sym e ∙ f in cc
 pub no_error : {A B : Type 0} (r : Result A B) (x : A) (fault : B) → r ≡ Ok x → r ≡ Err fault → ⊥
 no_error r x fault e f = let both : Ok x ≡ Err fault = sym e ∙ f in cc
 
--- what is read of a number's digits
+-- a number is read from its digits
 pub number_back : (high n : ℕ) (digits : List ℕ) (read : Result ℕ ArgFault) → n < 2 ^ 64 → n ≤ high → decimal n ≡ digits → read ≡ decimal_number 0 high digits → read ≡ Ok n
 number_back high n digits read small fits e is = is ∙ ap (decimal_number 0 high) (sym e) ∙ decimal_number-inside 0 high n small (omega arith) fits
 
 paint_small : (paint : ℕ) → paint < 256 → paint < 2 ^ 64
 paint_small paint l = omega (arith, l)
 
--- the marks are cut at their colon
+-- the annotations are cut at their colon
 pub paint_text : (paint : ℕ) (destination text : List ℕ) → paint < 256 → decimal paint ++ 58 ∷ dotted destination ≡ text → decimal paint ≡ before 58 text
 paint_text paint destination text l e = sym (before-at 58 (decimal paint) (dotted destination) (lacks-decimal 58 paint apart_58 (paint_small paint l))) ∙ ap (before 58) e
 

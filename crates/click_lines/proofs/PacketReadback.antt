@@ -1,4 +1,4 @@
--- Packets with commas between them are read back.
+-- Packets with commas between them read back.
 use Rattle.std.proofs.Common.{◌≡◌, ◌⊎◌, true, Some, Option, inl, inr, subst, ℕ, ◌<◌, List, [], ◌∷◌, ◌++◌, map, length, refl, sym, ap, ◌∙◌, arith}
 use Rattle.std.specs.List.{AllByRecursion}
 use Rattle.std.proofs.lemmas.List.{append-nil, length-append}
@@ -15,7 +15,8 @@ use Rattle.click_lines.proofs.CutParts.{after-at, after-lacks, before-at, before
 use Rattle.click_lines.proofs.PacketWords.{apart_44, by_test, bytes_at, equal, hex_same, lacks-hex, lacks-packet, marked, word_some, zeros}
 use Rattle.click_lines.proofs.DigitReadback.{reads_back}
 
--- of whatever packets are written so, those that were read are the front, and what is left is the word of the others
+-- For any packets with this word, those that were read are a prefix, and the rest of the word is
+-- that of the other packets.
 abbrev pub Left : List ℕ → List Packet → List ℕ → Type 0
 Left word so_far rest = (ps : List Packet) → AllByRecursion IsPacket ps → packets_word ps ≡ word
     → (more : List Packet) × AllByRecursion IsPacket more × (ps ≡ so_far ++ more) × (packets_word more ≡ rest)
@@ -24,7 +25,7 @@ nothing : (rest : List ℕ) → [] ≡ rest → 0 < length rest → ⊥
 nothing [] e some = omega (arith, some)
 nothing (b ∷ rest) e some = absurd cc
 
--- what is left begins with the word of a packet
+-- the remaining word begins with the word of a packet
 pub next_packet : (more : List Packet) (rest : List ℕ) → AllByRecursion IsPacket more → packets_word more ≡ rest → 0 < length rest
     → (p : Packet) × (ps : List Packet) × (more ≡ p ∷ ps) × IsPacket p × AllByRecursion IsPacket ps × (packet_word p ≡ before 44 rest) × (packets_word ps ≡ after 44 rest)
 next_packet [] rest h e some = absurd (nothing rest e some)
@@ -43,12 +44,12 @@ none_left (p ∷ ps) rest h e end = absurd (word_some p (behind 44 (map packet_w
 pub all_read : (ps more so_far : List Packet) (rest : List ℕ) → AllByRecursion IsPacket more → ps ≡ so_far ++ more → packets_word more ≡ rest → length rest ≡ 0 → ps ≡ so_far
 all_read ps more so_far rest h is e end = is ∙ ap (λ (t : List Packet). so_far ++ t) (none_left more rest h e end) ∙ append-nil so_far
 
--- ---- one packet
+-- ---- a single packet
 
 abbrev CutOff : Packet → List ℕ → Type 0
 CutOff p rest = ((has_no_annotations p ≡ true) × (rest ≡ [])) ⊎ (rest ≡ decimal p.paint ++ 58 ∷ dotted p.destination)
 
--- a packet's word is cut behind its digits
+-- the word of a packet is cut after its digits
 word_cut : (p : Packet) → IsPacketOfBytes p → (before 58 (packet_word p) ≡ hex_text p.bytes) × CutOff p (after 58 (packet_word p))
 word_cut p h =
     let digits = hex_text p.bytes in
@@ -67,7 +68,7 @@ pub digits_in : (p : Packet) (word : List ℕ) → IsPacketOfBytes p → packet_
 digits_in p word h e =
     subst (λ (t : List ℕ). IsHex t p.bytes) (sym (word_cut p h).0 ∙ ap (before 58) e) (reads_back p.bytes (bytes_at p.bytes h.0))
 
--- the digits of a packet spell one
+-- the digits of a packet are those of some packet
 pub spells_some : (p : Packet) (word : List ℕ) → IsPacket p → packet_word p ≡ word → SpellsNone (before 58 word) → ⊥
 spells_some p word h e none = none p.bytes h.1 (digits_in p word h.0 e)
 
@@ -77,7 +78,7 @@ cut_off p word h e = subst (λ (t : List ℕ). CutOff p (after 58 t)) e (word_cu
 some_marks : (paint : ℕ) (rest : List ℕ) → length (decimal paint ++ 58 ∷ rest) ≡ 0 → ⊥
 some_marks paint rest none = let long = length-append (decimal paint) (58 ∷ rest) in omega (arith, long, none)
 
--- where something stands behind a colon, it is the packet's paint and destination
+-- the text after a colon, if there is one, is the paint and the destination of the packet
 pub marks_read : (p q r : Packet) (word : List ℕ) (read : Option (Unit {0})) → IsPacketOfBytes p → packet_word p ≡ word → 0 < length (after 58 word) → ReadsAnnotations (after 58 word) q r read
     → (read ≡ Some tt) × (r ≡ record q { paint = p.paint; destination = p.destination })
 marks_read p q r word read h e some reads = elim (cut_off p word h e) [

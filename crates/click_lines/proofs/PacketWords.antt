@@ -1,4 +1,4 @@
--- Packets are known by their words.
+-- A word determines its packets.
 use Rattle.std.proofs.Common.{◌≡◌, ◌⊎◌, ℕ, ◌+◌, ◌/◌, ◌%◌, ◌<◌, ◌^◌, ◌==◌, Bool, true, false, not, ◌&&◌, List, [], ◌∷◌, ◌++◌, map, length, slice_index, All, Ok, zero, suc, refl, sym, ap, ◌∙◌, inl, inr, arith, subst, codes}
 use Rattle.std.specs.Prelude.{if◌then◌else◌, decimal}
 use Rattle.std.specs.List.{AllByRecursion}
@@ -26,7 +26,7 @@ bytes_at (b ∷ bytes) h (suc i) = bytes_at bytes h.1 i
 
 -- ---- hex digits
 
--- digits are those of one list of bytes
+-- digits determine the bytes
 pub hex_same : (text a b : List ℕ) → IsHex text a → IsHex text b → a ≡ b
 hex_same text a b h k = elim h [
   | inl p ↦ elim k [

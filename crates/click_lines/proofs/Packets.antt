@@ -1,4 +1,4 @@
--- Packets with commas between them, one more at the end.
+-- Packets with commas between them, with one more at the end.
 use Rattle.std.proofs.Common.{◌≡◌, ℕ, ◌+◌, ◌<◌, List, [], ◌∷◌, ◌++◌, map, take, length, get_or, sym, ap, ◌∙◌, append_assoc}
 use Rattle.std.proofs.lemmas.List.{append-nil, map-append, take_more}
 use Rattle.click_packet.specs.Packet.{Packet}

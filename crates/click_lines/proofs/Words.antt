@@ -1,4 +1,4 @@
--- Words are known by how they are spelled, and have no blank.
+-- An escaped text determines its bytes, and an escaped word has no blank.
 use Rattle.std.proofs.Common.{◌≡◌, ◌⊎◌, ℕ, ◌+◌, ◌/◌, ◌%◌, ◌<◌, ◌≤◌, ◌^◌, ◌==◌, Bool, true, false, not, ◌&&◌, List, [], ◌∷◌, ◌++◌, length, slice_index, Some, zero, suc, refl, sym, ap, ◌∙◌, inl, inr, arith}
 use Rattle.std.specs.Prelude.{if◌then◌else◌, nat_le, decimal}
 use Rattle.std.proofs.lemmas.Bool.{and_parts, and_from, leb-true}
@@ -32,7 +32,7 @@ by_test : (t : Bool) (x y : List ℕ) → ((t ≡ true) × ((if t then x else y)
 by_test true x y = inl (refl, refl)
 by_test false x y = inr refl
 
--- the first byte stands for itself, or as a backslash and two digits
+-- the first byte is not escaped, or it is a backslash and two digits
 pub shape : (least b : ℕ) (bs : List ℕ) → ((is_plain least b ≡ true) × (escaped least (b ∷ bs) ≡ b ∷ escaped least bs)) ⊎ (escaped least (b ∷ bs) ≡ 92 ∷ high b ∷ low b ∷ escaped least bs)
 unfolding encode_with
 shape least b bs = elim (by_test (is_plain least b) (b ∷ []) (92 ∷ encode_lower (b ∷ []))) [
@@ -90,7 +90,7 @@ spelled_once least (x ∷ a) (y ∷ b) h k e = elim (shape least x a) [
   ]
 ]
 
--- a byte below the least, which is no digit, does not stand in a spelled text
+-- a byte below `least` that is not a hex digit does not occur in an escaped text
 pub lacks-escaped : (c least : ℕ) (bs : List ℕ) → AreBytes bs → c < least → not (92 == c) ≡ true → lacks c lower_digits ≡ true → lacks c (escaped least bs) ≡ true
 lacks-escaped c least [] h small apart digits = refl
 lacks-escaped c least (b ∷ bs) h small apart digits =
@@ -110,7 +110,7 @@ lacks-escaped c least (b ∷ bs) h small apart digits =
 
 -- ---- numbers
 
--- a byte that is no decimal digit does not stand in a number
+-- a byte that is not a decimal digit does not occur in a number
 pub lacks-decimal : (c n : ℕ) → ((d : ℕ) → d < 10 → 48 + d ≡ c → ⊥) → n < 2 ^ 64 → lacks c (decimal n) ≡ true
 lacks-decimal c n apart lt = decimal_by_steps (λ (m : ℕ) (ds : List ℕ). lacks c ds ≡ true)
     (λ m l. and_from (not (48 + m == c)) true (other (48 + m) c (apart m l)) refl)

@@ -1,4 +1,4 @@
--- The words with which calls begin.
+-- The words that lines of calls begin with.
 use Rattle.std.specs.Prelude.{ℕ, List, codes}
 use Rattle.click_lines.specs.declared.kind.Kind.{Kind}
 use Rattle.click_lines.specs.declared.kind.Kind.TheVariants as kind

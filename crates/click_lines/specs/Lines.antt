@@ -12,18 +12,18 @@ use Rattle.click_lines.specs.ReplyLine.{reply_text}
 use Rattle.click_lines.specs.Spelling.{word, words, joined}
 use Rattle.click_lines.specs.declared.line.Line.{Line}
 
--- the packet has paint 0 and destination 0.0.0.0, as a packet has that enters
+-- the packet has paint 0 and destination 0.0.0.0, as a packet has when it enters
 abbrev pub has_no_annotations : Packet → Bool
 has_no_annotations p = p.paint == 0 && bytes_eq p.destination (0 ∷ 0 ∷ 0 ∷ 0 ∷ [])
 
--- behind colons the paint and the destination, where the packet has others than those with which one enters
+-- the paint and the destination, each after a colon, if they are not those of a packet that enters
 abbrev pub annotations : Packet → List ℕ
 annotations p = if has_no_annotations p then [] else 58 ∷ decimal p.paint ++ 58 ∷ dotted p.destination
 
 abbrev pub packet_word : Packet → List ℕ
 packet_word p = hex_text p.bytes ++ annotations p
 
--- with commas between them
+-- packets with commas between them
 abbrev pub packets_word : List Packet → List ℕ
 packets_word ps = joined 44 (map packet_word ps)
 
@@ -42,7 +42,8 @@ call_words (call.Transmit device) = codes "transmit" ∷ word device ∷ []
 abbrev pub call_line : Call → List ℕ
 call_line c = joined 32 (call_words c)
 
--- A seat, its call and the reply's text, with tabs between them. A line end does not belong to it.
+-- A seat number, its call and the text of the reply, with tabs between them. The line end is not
+-- part of it.
 abbrev pub line_text : Line → List ℕ
 line_text l = joined 9 (decimal l.seat ∷ call_line l.call ∷ words l.reply ∷ [])
 
@@ -50,7 +51,7 @@ line_text l = joined 9 (decimal l.seat ∷ call_line l.call ∷ words l.reply �
 abbrev pub entry_line : ℕ → Call → Reply → List ℕ
 entry_line seat call reply = line_text (record { seat = seat; call = call; reply = reply_text reply })
 
--- ---- what a line is written of: bytes, and numbers of their widths
+-- ---- the ranges of the numbers and bytes in a line
 
 abbrev pub AreBytes : List ℕ → Type 0
 AreBytes bytes = AllByRecursion (λ b. b < 256) bytes

@@ -1,4 +1,4 @@
--- What is read back of a text: each value that is written so.
+-- What is read back from a text: each value that has this text.
 use Rattle.std.specs.Prelude.{◌≡◌, ℕ, ◌<◌, ◌≤◌, ◌^◌, ◌==◌, if◌then◌else◌, List, [], ◌∷◌, ◌++◌, length, decimal, Option, Some}
 use Rattle.std.specs.List.{AllByRecursion}
 use Rattle.click_packet.specs.Packet.{Packet, longest_packet}
@@ -11,30 +11,30 @@ use Rattle.click_lines.specs.Spelling.{escaped, word}
 use Rattle.click_lines.specs.declared.kind.Kind.{Kind}
 use Rattle.click_lines.specs.declared.kind.Kind.TheVariants as kind
 
--- what stands before the first such byte, all where there is none
+-- the text before the first such byte; the whole text if there is none
 abbrev pub before : ℕ → List ℕ → List ℕ
 before c [] = []
 before c (b ∷ bs) = if b == c then [] else b ∷ before c bs
 
--- what stands behind it
+-- the text after the first such byte
 abbrev pub after : ℕ → List ℕ → List ℕ
 after c [] = []
 after c (b ∷ bs) = if b == c then bs else after c bs
 
--- Of each: what is read of a text that is written so.
+-- In each of these definitions, a value with this text is what is read.
 abbrev pub ReadsBytes : List ℕ → Option (List ℕ) → Type 0
 ReadsBytes text read = (least : ℕ) (bytes : List ℕ) → AreBytes bytes → escaped least bytes ≡ text → read ≡ Some bytes
 
 abbrev pub ReadsNumber : List ℕ → Option ℕ → Type 0
 ReadsNumber text read = (n : ℕ) → n < 2 ^ 64 → decimal n ≡ text → read ≡ Some n
 
--- the packet gets the paint and the destination of a text that is written so
+-- the packet gets the paint and the destination that have this text
 abbrev pub ReadsAnnotations : List ℕ → Packet → Packet → Option (Unit {0}) → Type 0
 ReadsAnnotations text p q read =
     (paint : ℕ) (destination : List ℕ) → paint < 256 → length destination ≡ 4 → AreBytes destination → decimal paint ++ 58 ∷ dotted destination ≡ text
     → (read ≡ Some tt) × (q ≡ record p { paint = paint; destination = destination })
 
--- a packet of at most 1,600 bytes, as all are
+-- a packet of at most 1,600 bytes, as all packets are
 abbrev pub IsPacket : Packet → Type 0
 IsPacket p = IsPacketOfBytes p × (length p.bytes ≤ longest_packet)
 
@@ -44,7 +44,7 @@ ReadsPacket text read = (p : Packet) → IsPacket p → packet_word p ≡ text �
 abbrev pub ReadsPackets : List ℕ → Option (List Packet) → Type 0
 ReadsPackets text read = (ps : List Packet) → AllByRecursion IsPacket ps → packets_word ps ≡ text → read ≡ Some ps
 
--- the packets of a call have at most 1,600 bytes, as all packets do
+-- the packets of a call have at most 1,600 bytes, as all packets have
 abbrev pub HasPacketsThatFit : Call → Type 0
 HasPacketsThatFit (call.Arrive device p) = length p.bytes ≤ longest_packet
 HasPacketsThatFit (call.Poll device ps) = AllByRecursion (λ p. length p.bytes ≤ longest_packet) ps
@@ -53,7 +53,7 @@ HasPacketsThatFit _ = Unit {0}
 abbrev pub ReadsCall : List ℕ → Option Call → Type 0
 ReadsCall text read = (c : Call) → IsCallOfBytes c → HasPacketsThatFit c → call_line c ≡ text → read ≡ Some c
 
--- the call is of this kind, and its words are the first, which stands for these bytes, and this last one
+-- the call has this kind; its first word stands for the bytes `first`, and its last word is `last`
 abbrev pub IsLaidOut : Kind → List ℕ → List ℕ → Call → Type 0
 IsLaidOut kind.Read first last c = (text : List ℕ) × AreBytes text × (word text ≡ last) × (c ≡ call.Read first text)
 IsLaidOut kind.Write first last c = (text : List ℕ) × AreBytes text × (word text ≡ last) × (c ≡ call.Write first text)
@@ -65,7 +65,7 @@ IsLaidOut kind.Poll first last c = (ps : List Packet) × AllByRecursion IsPacket
 IsLaidOut kind.Round first last c = c ≡ call.Round
 IsLaidOut kind.Transmit first last c = c ≡ call.Transmit first
 
--- no line is written so
+-- no line has this text
 abbrev pub IsNoLine : List ℕ → Type 0
 IsNoLine text = (l : Line) → IsLineOfBytes l → HasPacketsThatFit l.call → line_text l ≡ text → ⊥
 

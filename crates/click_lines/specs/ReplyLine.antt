@@ -27,6 +27,6 @@ reply_text (reply.Sent (Some packet)) = sent_text packet
 reply_text (reply.Sent None) = codes "sent none"
 reply_text reply.NoDevice = codes "nodevice"
 
--- the text, and a line end
+-- the text and a line end
 abbrev pub reply_line : Reply → List ℕ
 reply_line r = reply_text r ++ codes "\n"

@@ -1,4 +1,4 @@
-//! The line of a call.
+//! A call as a line.
 
 ghost use Rattle.std.specs.Prelude.{◌≡◌, ◌++◌, ◌∷◌, [], IfOk};
 ghost use Rattle.click_lines.specs.Spelling.{word, joined};
@@ -9,7 +9,7 @@ use crate::packet::{packet_word, packets_word};
 use click_router::Call;
 use std::alloc::{AllocError, Global};
 
-/// The words of a call, with blanks between them.
+/// Returns the words of a call with blanks between them.
 pub fn call_line(alloc: Global, call: &Call) -> Result<Vec<u8>, AllocError>
     ensures { IfOk result (λ line. line.items ≡ call_line call.now) }
 {
@@ -36,7 +36,7 @@ pub fn call_line(alloc: Global, call: &Call) -> Result<Vec<u8>, AllocError>
     }
 }
 
-/// A call of one word that is spelled.
+/// Returns a call with one escaped word.
 fn one_word(alloc: Global, call: &[u8], bytes: &[u8]) -> Result<Vec<u8>, AllocError>
     ensures { IfOk result (λ line. line.items ≡ joined 32 (call.now ∷ word bytes.now ∷ [])) }
 {
@@ -46,7 +46,7 @@ fn one_word(alloc: Global, call: &[u8], bytes: &[u8]) -> Result<Vec<u8>, AllocEr
     Ok(line)
 }
 
-/// A call of two.
+/// Returns a call with two escaped words.
 fn two_words(alloc: Global, call: &[u8], name: &[u8], text: &[u8]) -> Result<Vec<u8>, AllocError>
     ensures { IfOk result (λ line. line.items ≡ joined 32 (call.now ∷ word name.now ∷ word text.now ∷ [])) }
 {

@@ -1,4 +1,4 @@
-//! Packets and bytes in hex digits.
+//! Packets and bytes as hex digits.
 
 ghost use Rattle.std.specs.Prelude.{◌≡◌, IfOk, MatchResult};
 ghost use Rattle.click_lines.specs.Digits.{IsHex, IsPacketOf, IsNoPacket, hex_text};
@@ -8,7 +8,7 @@ use hex::FromHexError;
 use std::alloc::{AllocError, Global};
 use thiserror::Error;
 
-/// Why digits are no packet.
+/// The reason why a text is not a packet.
 #[derive(Clone, Copy, Debug, PartialEq, Eq, Error)]
 pub enum HexFault {
     #[error("out of memory")]
@@ -23,10 +23,10 @@ pub enum HexFault {
     TooLong,
 }
 
-/// The digits of bytes, two a byte in lower case; `-` where there are none.
+/// Returns the hex digits of the bytes, two for each byte, in lower case. Returns `-` for no bytes.
 pub fn hex_text(alloc: Global, bytes: &[u8]) -> Result<Vec<u8>, AllocError>
     ensures text { IfOk result (λ text. text.items ≡ hex_text bytes.now) }
-    // They are read as these bytes again.
+    // The digits read back as these bytes.
     ensures back { IfOk result (λ text. IsHex text.items bytes.now) }
 {
     if bytes.is_empty() {
@@ -36,7 +36,8 @@ pub fn hex_text(alloc: Global, bytes: &[u8]) -> Result<Vec<u8>, AllocError>
     Ok(digits.into_bytes())
 }
 
-/// The packet that digits in either case are, with paint 0 and destination 0.0.0.0; `-` is one of no bytes.
+/// Returns the packet with these hex digits, in either case, with paint 0 and destination 0.0.0.0.
+/// The text `-` is an empty packet.
 pub fn packet_of(alloc: Global, digits: &[u8]) -> Result<Packet, HexFault>
     ensures { MatchResult result (IsPacketOf digits.now) (IsNoPacket digits.now) }
 {

@@ -1,4 +1,4 @@
-//! Bytes as words of a line.
+//! Bytes as words of a line, escaped where necessary.
 
 ghost use Rattle.std.specs.Prelude.{◌≡◌, ◌++◌, ◌∷◌, ◌<◌, ℕ, List, ◌≤◌, length, IfOk, IfSome, OnOk, MatchOption};
 ghost use Rattle.click_lines.specs.Spelling.{is_plain, escaped_byte, escaped, words};
@@ -7,19 +7,19 @@ ghost use Rattle.click_lines.specs.Reading.{ReadsBytes};
 use click_base::sequence::Sequence;
 use std::alloc::{AllocError, Global};
 
-/// The least byte of a word that stands for itself, and the least one of words.
+/// The least byte that is not escaped: `IN_WORD` in a word, `IN_WORDS` in words with blanks.
 pub const IN_WORD: u8 = b'!';
 
 const IN_WORDS: u8 = b' ';
 
-/// Whether a byte stands for itself.
+/// Returns whether the byte is not escaped.
 fn is_plain(least: u8, byte: u8) -> bool
     ensures { result ≡ is_plain least byte }
 {
     least <= byte && byte <= b'~' && byte != b'\\'
 }
 
-/// Adds a byte as it is spelled.
+/// Appends a byte, escaped if necessary.
 fn push_byte(line: &mut Vec<u8>, least: u8, byte: u8) -> Result<(), AllocError>
     ensures { OnOk result (line.new.items ≡ line.old.items ++ escaped_byte least byte) }
 {
@@ -37,7 +37,7 @@ fn push_byte(line: &mut Vec<u8>, least: u8, byte: u8) -> Result<(), AllocError>
     }
 }
 
-/// Adds bytes as they are spelled.
+/// Appends bytes, escaped where necessary.
 pub fn push_escaped(line: &mut Vec<u8>, least: u8, bytes: &[u8]) -> Result<(), AllocError>
     ensures { OnOk result (line.new.items ≡ line.old.items ++ escaped least bytes.now) }
 {
@@ -47,14 +47,15 @@ pub fn push_escaped(line: &mut Vec<u8>, least: u8, bytes: &[u8]) -> Result<(), A
     Ok(())
 }
 
-/// Adds bytes as words, whose blanks stay.
+/// Appends bytes as words, in which blanks are not escaped.
 pub fn push_words(line: &mut Vec<u8>, bytes: &[u8]) -> Result<(), AllocError>
     ensures { OnOk result (line.new.items ≡ line.old.items ++ words bytes.now) }
 {
     push_escaped(line, IN_WORDS, bytes)
 }
 
-/// The bytes that a text spells; none where a backslash has no two hex digits behind it.
+/// Returns the bytes of an escaped text. Returns `None` if a backslash is not followed by two hex
+/// digits.
 pub fn unescaped(alloc: Global, text: &[u8]) -> Result<Option<Sequence<u8>>, AllocError>
     ensures { IfOk result (ReadsBytes text.now) }
 {
@@ -70,7 +71,8 @@ pub fn unescaped(alloc: Global, text: &[u8]) -> Result<Option<Sequence<u8>>, All
     Ok(Some(Sequence::of(bytes)))
 }
 
-/// The byte that is spelled first in a text of a first byte and those behind it, and what stands behind its spelling.
+/// Returns the first byte of an escaped text, and the rest of the text. `first` and `behind` are
+/// the text's first byte and the others.
 fn first_byte(first: u8, behind: &[u8]) -> Option<(u8, &[u8])>
     ensures byte { (least b : ℕ) (bytes : List ℕ) → b < 256 → escaped least (b ∷ bytes) ≡ first ∷ behind.now
         → MatchOption result ⊥ (λ r. (r.0 ≡ b) × (r.1.now ≡ escaped least bytes)) }

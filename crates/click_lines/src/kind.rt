@@ -1,4 +1,4 @@
-//! Which call a word begins.
+//! The kind of a call, from the word that its line begins with.
 
 ghost use Rattle.std.specs.Prelude.{◌≡◌, MatchOption};
 ghost use Rattle.click_lines.specs.Kinds.{kind_word};
@@ -18,7 +18,7 @@ pub enum Kind {
     Transmit,
 }
 
-/// Which call a word begins.
+/// Returns the kind of the call whose line begins with this word.
 pub fn kind_of(word: &[u8]) -> Option<Kind>
     ensures { MatchOption result ((kind : Kind) → kind_word kind ≡ word.now → ⊥) (λ kind. kind_word kind ≡ word.now) }
 {

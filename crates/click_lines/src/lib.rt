@@ -1,4 +1,5 @@
-//! Calls and their replies as lines: one line for each call of a seat with its reply, whatever bytes they have, and such a line read back.
+//! Calls and their replies as lines of text. There is one line for each call of a seat and its
+//! reply, whatever their bytes, and it reads back.
 #![tactic(auto)]
 
 mod call;

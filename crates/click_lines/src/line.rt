@@ -10,7 +10,7 @@ use click_base::sequence::Sequence;
 use click_router::{Call, Reply};
 use std::alloc::{AllocError, Global};
 
-/// What a line says: a seat, the call that it made, and the text of the reply.
+/// The content of a line: a seat number, the call that the seat made, and the text of the reply.
 #[derive(Drop)]
 pub struct Line {
     pub seat: usize,
@@ -18,7 +18,7 @@ pub struct Line {
     pub reply: Sequence<u8>,
 }
 
-/// The line of a seat's call and a reply of this text, without a line end.
+/// Returns the line of a seat's call and a reply's text, without a line end.
 fn text_of(alloc: Global, seat: usize, call: &Call, reply: &[u8]) -> Result<Vec<u8>, AllocError>
     ensures { IfOk result (λ text. text.items ≡ line_text (record { seat = seat; call = call.now; reply = reply.now })) }
 {
@@ -32,7 +32,8 @@ fn text_of(alloc: Global, seat: usize, call: &Call, reply: &[u8]) -> Result<Vec<
 }
 
 impl Line {
-    /// The line, without a line end. It has no byte that cannot be seen but its two tabs and its blanks.
+    /// Returns the line, without a line end. Except for two tabs and blanks it has visible ASCII
+    /// only.
     pub fn text(&self, alloc: Global) -> Result<Vec<u8>, AllocError>
         ensures { IfOk result (λ text. text.items ≡ line_text self.now) }
     {
@@ -40,7 +41,7 @@ impl Line {
     }
 }
 
-/// The line of a call that a seat made and of its reply, without a line end.
+/// Returns the line of a call that a seat made and of its reply, without a line end.
 pub fn entry_line(
     alloc: Global,
     seat: usize,

@@ -14,14 +14,14 @@ use click_handlers::push_dotted;
 use click_packet::{Packet, StoredPacket};
 use std::alloc::{AllocError, Global};
 
-/// Whether a packet has the paint and the destination with which one enters.
+/// Returns whether the packet has paint 0 and destination 0.0.0.0, as a packet has when it enters.
 fn has_no_annotations(packet: &StoredPacket) -> bool
     ensures { result ≡ has_no_annotations packet.now }
 {
     packet.paint() == 0 && packet.destination() == [0; 4]
 }
 
-/// The word of a packet.
+/// Returns a packet as a word.
 pub fn packet_word(alloc: Global, packet: &StoredPacket) -> Result<Vec<u8>, AllocError>
     ensures { IfOk result (λ text. text.items ≡ packet_word packet.now) }
 {
@@ -35,7 +35,7 @@ pub fn packet_word(alloc: Global, packet: &StoredPacket) -> Result<Vec<u8>, Allo
     Ok(text)
 }
 
-/// The word of packets.
+/// Returns packets as one word, with commas between them.
 pub fn packets_word(alloc: Global, packets: &[StoredPacket]) -> Result<Vec<u8>, AllocError>
     ensures { IfOk result (λ text. text.items ≡ packets_word packets.now) }
 {
@@ -50,7 +50,7 @@ pub fn packets_word(alloc: Global, packets: &[StoredPacket]) -> Result<Vec<u8>, 
     Ok(text)
 }
 
-/// The packet of a word, if it is laid out as one.
+/// Parses a word as a packet.
 pub fn packet_in(alloc: Global, word: &[u8]) -> Result<Option<StoredPacket>, AllocError>
     ensures { IfOk result (ReadsPacket word.now) }
 {
@@ -66,7 +66,7 @@ pub fn packet_in(alloc: Global, word: &[u8]) -> Result<Option<StoredPacket>, All
     Ok(Some(StoredPacket::of(alloc, &packet)?))
 }
 
-/// The packet of these digits, if they are one.
+/// Parses hex digits as a packet.
 fn unannotated_packet(alloc: Global, digits: &[u8]) -> Result<Option<Packet>, AllocError>
     ensures { IfOk result (λ read. MatchOption read (SpellsNone digits.now) (IsPacketOf digits.now)) }
 {
@@ -77,7 +77,7 @@ fn unannotated_packet(alloc: Global, digits: &[u8]) -> Result<Option<Packet>, Al
     }
 }
 
-/// Gives a packet the paint and the destination that stand in a text with a colon between them, if two such stand there.
+/// Parses a paint and a destination with a colon between them, and sets them in the packet.
 fn read_annotations(packet: &mut Packet, text: &[u8]) -> Option<()>
     ensures { ReadsAnnotations text.now packet.old packet.new result }
 {
@@ -89,7 +89,7 @@ fn read_annotations(packet: &mut Packet, text: &[u8]) -> Option<()>
     Some(())
 }
 
-/// The packets of a word, if it is laid out as one.
+/// Parses a word as packets with commas between them.
 pub fn packets_in(alloc: Global, word: &[u8]) -> Result<Option<Sequence<StoredPacket>>, AllocError>
     ensures { IfOk result (ReadsPackets word.now) }
 {

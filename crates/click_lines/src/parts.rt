@@ -1,11 +1,12 @@
-//! Texts that are cut at a byte.
+//! Cuts texts at a byte.
 
 ghost use Rattle.std.specs.Prelude.{◌≡◌};
 ghost use Rattle.click_lines.specs.Reading.{before, after};
 
 use memchr::memchr;
 
-/// What stands before the first such byte, and what stands behind it; where there is none, nothing does.
+/// Returns the text before the first such byte, and the text after it. If there is none, returns
+/// the whole text and an empty one.
 pub fn cut(text: &[u8], byte: u8) -> (&[u8], &[u8])
     ensures { (result.0.now ≡ before byte text.now) × (result.1.now ≡ after byte text.now) }
 {

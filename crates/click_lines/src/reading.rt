@@ -1,4 +1,4 @@
-//! Lines read back.
+//! Reads lines back.
 
 ghost use Rattle.std.specs.Prelude.{◌≡◌, Some, IfOk, IfSome};
 ghost use Rattle.click_lines.specs.Lines.{line_text};
@@ -15,11 +15,11 @@ use click_classes::decimal_number;
 use click_router::Call;
 use std::alloc::{AllocError, Global};
 
-/// What a line says, which has no line end. A line is read where it is written just so, and then as that of which it is written.
+/// Parses a line, which has no line end. Returns `None` if no seat, call and reply have this line.
 pub fn read_line(alloc: Global, line: &[u8]) -> Result<Option<Line>, AllocError>
-    // What a line is read as has that line.
+    // The content that is read has this line.
     ensures is { IfOk result (λ read. IfSome read (λ l. line_text l ≡ line.now)) }
-    // What a line is written of is read again.
+    // If some content has this line, that content is read.
     ensures back { IfOk result (ReadsLine line.now) }
 {
     let Some(read) = parsed(alloc, line)? else {
@@ -32,7 +32,7 @@ pub fn read_line(alloc: Global, line: &[u8]) -> Result<Option<Line>, AllocError>
     }
 }
 
-/// What a line says, if it is laid out as one.
+/// Parses the columns of a line, without a test that the content has this very line.
 fn parsed(alloc: Global, line: &[u8]) -> Result<Option<Line>, AllocError>
     ensures { IfOk result (ReadsLine line.now) }
 {
@@ -50,7 +50,7 @@ fn parsed(alloc: Global, line: &[u8]) -> Result<Option<Line>, AllocError>
     Ok(Some(Line { seat, call, reply }))
 }
 
-/// The number that decimal digits are.
+/// Parses decimal digits.
 fn number_in(digits: &[u8]) -> Option<usize>
     ensures { ReadsNumber digits.now result }
 {
@@ -60,7 +60,7 @@ fn number_in(digits: &[u8]) -> Option<usize>
     }
 }
 
-/// The call of these words.
+/// Parses the words of a call.
 fn call_in(alloc: Global, words: &[u8]) -> Result<Option<Call>, AllocError>
     ensures { IfOk result (ReadsCall words.now) }
 {
@@ -75,7 +75,7 @@ fn call_in(alloc: Global, words: &[u8]) -> Result<Option<Call>, AllocError>
     call_of(alloc, kind, first, last)
 }
 
-/// The call of this kind, of its first word and what stands behind that.
+/// Parses a call of this kind, from its first word, unescaped, and the rest of its words.
 fn call_of(
     alloc: Global,
     kind: Kind,

@@ -10,7 +10,7 @@ use click_router::{Refusal, Reply};
 use itoa::Buffer;
 use std::alloc::{AllocError, Global};
 
-/// The text of a reply, without a line end.
+/// Returns the text of a reply, without a line end.
 pub fn reply_text(alloc: Global, reply: &Reply) -> Result<Vec<u8>, AllocError>
     ensures { IfOk result (λ line. line.items ≡ reply_text reply.now) }
 {
@@ -38,7 +38,7 @@ pub fn reply_text(alloc: Global, reply: &Reply) -> Result<Vec<u8>, AllocError>
     }
 }
 
-/// The line of a reply, with its end.
+/// Returns the line of a reply, with its line end.
 pub fn reply_line(alloc: Global, reply: &Reply) -> Result<Vec<u8>, AllocError>
     ensures { IfOk result (λ line. line.items ≡ reply_line reply.now) }
 {
@@ -47,7 +47,7 @@ pub fn reply_line(alloc: Global, reply: &Reply) -> Result<Vec<u8>, AllocError>
     Ok(line)
 }
 
-/// What a handler, or a configuration, finds wrong.
+/// Returns a word and the text of a fault.
 fn complaint(alloc: Global, word: &[u8], fault: &[u8]) -> Result<Vec<u8>, AllocError>
     ensures { IfOk result (λ line. line.items ≡ word.now ++ fault.now) }
 {
@@ -56,7 +56,7 @@ fn complaint(alloc: Global, word: &[u8], fault: &[u8]) -> Result<Vec<u8>, AllocE
     Ok(line)
 }
 
-/// A word and a number.
+/// Returns a word and a number.
 fn counted_text(alloc: Global, word: &[u8], count: u64) -> Result<Vec<u8>, AllocError>
     ensures { IfOk result (λ line. line.items ≡ word.now ++ decimal count) }
 {
@@ -65,7 +65,7 @@ fn counted_text(alloc: Global, word: &[u8], count: u64) -> Result<Vec<u8>, Alloc
     Ok(line)
 }
 
-/// A packet: its bytes, its paint and its destination.
+/// Returns the text for a packet that was sent: its bytes, its paint and its destination.
 fn sent_text(alloc: Global, packet: &Packet) -> Result<Vec<u8>, AllocError>
     ensures { IfOk result (λ line. line.items ≡ sent_text packet.now) }
 {
@@ -78,7 +78,7 @@ fn sent_text(alloc: Global, packet: &Packet) -> Result<Vec<u8>, AllocError>
     Ok(line)
 }
 
-/// Adds a number in decimal digits.
+/// Appends a number in decimal digits.
 pub fn push_number(line: &mut Vec<u8>, number: u64) -> Result<(), AllocError>
     ensures { OnOk result (line.new.items ≡ line.old.items ++ decimal number) }
 {

@@ -1,4 +1,4 @@
--- One datagram more.
+-- The fates of datagrams, after one more.
 use Rattle.std.proofs.Common.{◌≡◌, ℕ, ◌+◌, ◌<◌, ◌≤◌, inl, inr, true, false, List, [], ◌∷◌, ◌++◌, length, map, refl, sym, ap, subst, ◌∙◌, append-nil, append_assoc, arith}
 use Rattle.click_packet.specs.Packet.{Packet, longest_packet}
 use Rattle.click_links.specs.declared.datagram.Datagram.{Datagram}
@@ -42,7 +42,7 @@ hears_then came came2 came3 from mid to hs ks a b = record {
   ring = b.ring ∙ a.ring;
 }
 
--- one datagram came
+-- One datagram came.
 pub hears_one : (came came2 : List Datagram) (from to : Offering) (datagram : Datagram) (fate : DatagramFate) → came2 ≡ came ++ datagram ∷ [] → to.asked ≡ from.asked ++ asked_of fate datagram.bytes
     → to.feed.put ≡ from.feed.put ++ put_of fate datagram.bytes → IsDue from.feed.places (length from.feed.put) datagram fate → to.feed.places ≡ from.feed.places → to.feed.ring ≡ from.feed.ring
     → Hears came came2 from to (heard datagram fate ∷ [])
@@ -55,7 +55,7 @@ hears_one came came2 from to datagram fate more offered entered due places ring 
   ring = ring;
 }
 
--- nothing came
+-- No datagram came.
 pub receives_none : (came : List Datagram) (from : Offering) → Receives came came from from nothing_dropped
 receives_none came from = record {
   heard_here = [];
@@ -73,7 +73,7 @@ receives_none came from = record {
   no_memory = refl;
 }
 
--- one more came
+-- One more datagram came.
 pub receives_more : (came came2 came3 : List Datagram) (from mid to : Offering) (d : Dropped) (datagram : Datagram) (fate : DatagramFate) → Receives came came2 from mid d → Hears came2 came3 mid to (heard datagram fate ∷ [])
     → Receives came came3 from to (added d fate)
 receives_more came came2 came3 from mid to d datagram fate r h = record {
@@ -85,12 +85,12 @@ receives_more came came2 came3 from mid to d datagram fate r h = record {
   no_memory = ap (λ n. n + of_memory fate) r.no_memory ∙ sym (counted_one of_memory r.heard_here datagram fate);
 }
 
--- none more came
+-- No further datagram came.
 pub receives_same : (came came2 came3 : List Datagram) (from mid to : Offering) (d : Dropped) → Receives came came2 from mid d → came3 ≡ came2 → to ≡ mid → Receives came came3 from to d
 receives_same came came2 came3 from mid to d r same still =
     subst (λ (o : Offering). Receives came came3 from o d) (sym still) (subst (λ (l : List Datagram). Receives came l from mid d) (sym same) r)
 
--- a fate adds one at most to each count
+-- A fate adds at most one to each number.
 adds_one : (fate : DatagramFate) → AllBelow (added nothing_dropped fate) 2
 adds_one Put = (omega arith, omega arith, omega arith, omega arith)
 adds_one Stranger = (omega arith, omega arith, omega arith, omega arith)
@@ -139,7 +139,7 @@ due_memory places before datagram known short = record {
   room = λ e. absurd cc;
 }
 
--- each count grows by one at most
+-- Each number grows by at most one.
 pub steps_small : (came came2 : List Datagram) (from to : Offering) (d d2 : Dropped) (n : ℕ) → AllBelow d (n + 1) → Steps came came2 from to d d2 → AllBelow d2 (n + 1 + 1)
 steps_small came came2 from to d d2 n below (inl (same, still, is)) = (
   omega (arith, below.0, ap (λ (x : Dropped). x.strangers) is),

@@ -1,4 +1,4 @@
--- What a forwarder did, as equations alone.
+-- What a forwarder did, as equations only.
 use Rattle.std.proofs.Common.{◌≡◌, ℕ, zero, suc, Bool, true, false, ◌&&◌, leb, List, [], ◌∷◌, ◌++◌, length, drop, if◌then◌else◌, refl, sym, ap, subst, ◌∙◌, arith}
 use Rattle.std.specs.List.{All, Contains}
 use Rattle.std.specs.Str.{bytes_eq}
@@ -81,15 +81,15 @@ module _ (ds : List (List ℕ)) where
     each = h.3;
   }
 
-  -- more was done
+  -- The forwarder did more.
   pub known_more : (calls calls2 calls3 : List (Call × Reply)) (a b c : List Attempt) → HasForwarded ds calls calls2 a b → Forwards ds calls2 calls3 b c → HasForwarded ds calls calls3 a c
   known_more calls calls2 calls3 a b c h f = known calls calls3 a c (forwards_then ds calls calls2 calls3 a b c (forwards_of calls calls2 a b h) f)
 
--- nothing was done
+-- The forwarder did nothing.
 pub known_none : (ds : List (List ℕ)) (calls calls2 : List (Call × Reply)) (a b : List Attempt) → calls2 ≡ calls → b ≡ a → HasForwarded ds calls calls2 a b
 known_none ds calls calls2 a b same still = known ds calls calls2 a b (forwards_same ds calls calls calls2 a a b (forwards_none ds calls a) same still)
 
--- the forwarder of some devices did more
+-- The forwarder made one more sweep, over the given devices.
 pub known_sweep : (devices : List Device) (ds : List (List ℕ)) (calls calls2 calls3 : List (Call × Reply)) (a b c : List Attempt) → names_of devices ≡ ds
     → HasForwarded ds calls calls2 a b → Forwards (names_of devices) calls2 calls3 b c → HasForwarded ds calls calls3 a c
 known_sweep devices ds calls calls2 calls3 a b c is h f =

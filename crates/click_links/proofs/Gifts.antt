@@ -1,4 +1,4 @@
--- What a forwarder gives and sends, one stretch after another.
+-- What a forwarder's Transmits return and what it sends, for consecutive sequences of calls.
 use Rattle.std.proofs.Common.{◌≡◌, ℕ, zero, suc, Bool, true, false, List, [], ◌∷◌, ◌++◌, length, map, Some, if◌then◌else◌, refl, sym, ap, subst, ◌∙◌, append-nil, append_assoc, arith}
 use Rattle.std.specs.List.{All, Contains}
 use Rattle.std.specs.Str.{bytes_eq}
@@ -28,7 +28,7 @@ module _ (devices : List (List ℕ)) where
   abbrev OfThese : Call × Reply → Type 0
   OfThese m = IsForwarding devices m.0
 
-  -- nothing was done
+  -- A forwarder that does nothing.
   pub forwards_none : (calls : List (Call × Reply)) (before : List Attempt) → Forwards devices calls calls before before
   forwards_none calls before = record {
     made = [];
@@ -39,7 +39,7 @@ module _ (devices : List (List ℕ)) where
     each = refl;
   }
 
-  -- what is done in two stretches
+  -- Two consecutive sequences of what a forwarder does are one.
   pub forwards_then : (calls calls2 calls3 : List (Call × Reply)) (a b c : List Attempt) → Forwards devices calls calls2 a b → Forwards devices calls2 calls3 b c → Forwards devices calls calls3 a c
   forwards_then calls calls2 calls3 a b c f g = record {
     made = f.made ++ g.made;
@@ -50,12 +50,12 @@ module _ (devices : List (List ℕ)) where
     each = gifts_append f.made g.made ∙ (ap (λ l. l ++ packets_given g.made) f.each ∙ (ap (λ l. sendings f.tries ++ l) g.each ∙ sym (sendings_append f.tries g.tries)));
   }
 
-  -- nothing more was done
+  -- A forwarder that does nothing more.
   pub forwards_same : (calls calls2 calls3 : List (Call × Reply)) (a b c : List Attempt) → Forwards devices calls calls2 a b → calls3 ≡ calls2 → c ≡ b → Forwards devices calls calls3 a c
   forwards_same calls calls2 calls3 a b c f same still =
       subst (λ (l : List Attempt). Forwards devices calls calls3 a l) (sym still) (subst (λ (l : List (Call × Reply)). Forwards devices calls l a b) (sym same) f)
 
-  -- a call was made that gives nothing
+  -- A forwarder that makes a call which returns no packet to send.
   pub forwards_call : (calls calls2 : List (Call × Reply)) (a : List Attempt) (m : Call × Reply) → calls2 ≡ calls ++ m ∷ [] → IsForwarding devices m.0 → given m.0 m.1 ≡ [] → Forwards devices calls calls2 a a
   forwards_call calls calls2 a m more is none = record {
     made = m ∷ [];
@@ -77,7 +77,7 @@ module _ (devices : List (List ℕ)) where
   gifts_gave [] = refl
   gifts_gave (t ∷ ts) = ap (λ l. (t.device, t.packet) ∷ l) (gifts_gave ts)
 
-  -- packets of a device were sent
+  -- A forwarder that sends packets of one device.
   pub forwards_sends : (device : List ℕ) (calls calls2 : List (Call × Reply)) (a b ts : List Attempt) → Contains devices device → Sends device calls calls2 a b ts → Forwards devices calls calls2 a b
   forwards_sends device calls calls2 a b ts has s = record {
     made = map gave ts;
@@ -92,7 +92,7 @@ none_in : (r : Reply) → GivesNone r → packets_in r ≡ []
 none_in (reply.Sent (Some p)) h = absurd cc
 none_in _ h = refl
 
--- the last Transmit gave none, or there was none such
+-- The last Transmit, which returned no packet, if there was one.
 last_done : (device : List ℕ) (more : Bool) (n : ℕ) (last : List Reply) (calls calls2 : List (Call × Reply)) (a : List Attempt) → calls2 ≡ calls ++ map (transmit_call device) last → Ends GivesNone 256 more n last
     → Forwards (device ∷ []) calls calls2 a a
 last_done device true n last calls calls2 a made ends =
@@ -101,25 +101,26 @@ last_done device false n last calls calls2 a made ends =
     forwards_call (device ∷ []) calls calls2 a (transmit_call device ends.1) (made ∙ ap (λ l. calls ++ map (transmit_call device) l) ends.2) (0, omega arith, refl)
     (ap (λ (l : List Packet). map (λ p. (device, p)) l) (none_in ends.1 ends.3))
 
--- packets of the device were sent until it gave none, or as many as may be
+-- Sending packets of a device until it has none, or the maximum number, is what a forwarder of this
+-- device does.
 pub until_forwards : (device : List ℕ) (calls calls2 : List (Call × Reply)) (a b : List Attempt) (tally : Tally) (more : Bool) → SendsUntil device calls calls2 a b tally more → Forwards (device ∷ []) calls calls2 a b
 until_forwards device calls calls2 a b tally more s =
     forwards_then (device ∷ []) calls (calls ++ map gave s.tries) calls2 a b b
     (forwards_sends (device ∷ []) device calls (calls ++ map gave s.tries) a b s.tries (0, omega arith, refl) (record { made = refl; sent = s.sent; own = s.own }))
     (last_done device more (length s.tries) s.last (calls ++ map gave s.tries) calls2 b s.made s.ends)
 
--- or it broke off
+-- A device turn that stops early is what a forwarder of this device does.
 pub breaks_forwards : (device : List ℕ) (calls calls2 : List (Call × Reply)) (a b : List Attempt) → Breaks device calls calls2 a b → Forwards (device ∷ []) calls calls2 a b
 breaks_forwards device calls calls2 a b s = forwards_sends (device ∷ []) device calls calls2 a b s.tries (0, omega arith, refl) s.sends
 
--- after a poll
+-- A Poll, followed by what a forwarder of the device does, is what a forwarder of this device does.
 pub polled_then : (device : List ℕ) (feeds : List FeedName) (calls calls2 calls3 : List (Call × Reply)) (a b : List Attempt) (taken : List Packet) (polled : Reply)
     → MayTake feeds device 32 taken polled → calls2 ≡ calls ++ (poll device taken, polled) ∷ [] → Forwards (device ∷ []) calls2 calls3 a b → Forwards (device ∷ []) calls calls3 a b
 polled_then device feeds calls calls2 calls3 a b taken polled may made f =
     forwards_then (device ∷ []) calls calls2 calls3 a a b
     (forwards_call (device ∷ []) calls calls2 a (poll device taken, polled) made ((0, omega arith, refl), may.within) refl) f
 
--- the only one
+-- The only device of a list.
 the_one : (device d : List ℕ) → Contains (device ∷ []) d → device ≡ d
 the_one device d (zero, below, is) = is
 the_one device d (suc k, below, is) = absurd (omega (arith, below))
@@ -130,7 +131,8 @@ widened devices device has call.Round h = tt
 widened devices device has (call.Transmit from) h = subst (λ d. Contains devices d) (the_one device from h) has
 widened devices device has _ h = absurd h
 
--- a forwarder of one of these devices is one of these devices
+-- What a forwarder of one device does is what a forwarder of several devices does, if these include
+-- it.
 pub forwards_among : (devices : List (List ℕ)) (device : List ℕ) (calls calls2 : List (Call × Reply)) (a b : List Attempt) → Contains devices device → Forwards (device ∷ []) calls calls2 a b → Forwards devices calls calls2 a b
 forwards_among devices device calls calls2 a b has f = record {
   made = f.made;
@@ -141,7 +143,7 @@ forwards_among devices device calls calls2 a b has f = record {
   each = f.each;
 }
 
--- those of one device
+-- The packets of one device.
 of_device : List ℕ → List (List ℕ × Packet) → List Packet
 of_device device [] = []
 of_device device (g ∷ gs) = (if bytes_eq g.0 device then g.1 ∷ [] else []) ++ of_device device gs
@@ -192,7 +194,7 @@ sent_append device (t ∷ ts) us =
     ap (λ l. (if bytes_eq t.device device then t.packet ∷ [] else []) ++ l) (sent_append device ts us)
     ∙ sym (append_assoc (if bytes_eq t.device device then t.packet ∷ [] else []) (sent_by device ts) (sent_by device us))
 
--- what the link of a device sent is what the device gave
+-- The packets sent over the link of a device are those that the device's Transmits returned.
 pub link_sends : (devices : List (List ℕ)) (calls calls2 : List (Call × Reply)) (before after : List Attempt) (f : Forwards devices calls calls2 before after) (device : List ℕ)
     → sent_by device after ≡ sent_by device before ++ gifts_by device f.made
 link_sends devices calls calls2 before after f device =

@@ -1,4 +1,4 @@
--- One packet more was sent.
+-- The packets that were sent, after one more attempt.
 use Rattle.std.proofs.Common.{◌≡◌, ℕ, Bool, List, [], ◌∷◌, ◌++◌, if◌then◌else◌, sym, ap, ◌∙◌, append-nil, append_assoc}
 use Rattle.click_packet.specs.Packet.{Packet}
 use Rattle.click_links.specs.Ends.{Attempt, attempt, gone}

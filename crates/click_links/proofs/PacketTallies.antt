@@ -1,4 +1,4 @@
--- Packets sent one after another.
+-- Packets that are sent one after another.
 use Rattle.std.proofs.Common.{◌≡◌, ℕ, ◌+◌, ◌<◌, ◌≤◌, Bool, true, false, List, [], ◌∷◌, ◌++◌, length, map, refl, sym, ap, subst, ◌∙◌, append-nil, append_assoc, length-append, arith}
 use Rattle.std.proofs.lemmas.List.{map-append}
 use Rattle.std.proofs.lemmas.List.Elements.{All-nil, All-append}
@@ -13,14 +13,14 @@ tally_one : (n : Tally) (ts : List Attempt) (device : List ℕ) (packet : Packet
 tally_one n [] device packet went = refl
 tally_one n (t ∷ ts) device packet went = tally_one (tallied n t.went) ts device packet went
 
--- nothing was sent
+-- Nothing is sent.
 pub sends_none : (device : List ℕ) (calls : List (Call × Reply)) (before : List Attempt) → Sends device calls calls before before []
 sends_none device calls before = record { made = sym (append-nil calls); sent = sym (append-nil before); own = All-nil (λ (t : Attempt). t.device ≡ device) }
 
 pub so_none : (device : List ℕ) (calls : List (Call × Reply)) (before : List Attempt) → SendsSo device calls calls before before 0 (record { went = 0; lost = 0 })
 so_none device calls before = record { tries = []; sends = sends_none device calls before; many = refl; counts = refl }
 
--- more was sent
+-- Two consecutive sequences of sending packets are one.
 pub sends_then : (device : List ℕ) (calls calls2 calls3 : List (Call × Reply)) (a b c ts us : List Attempt) → Sends device calls calls2 a b ts → Sends device calls2 calls3 b c us → Sends device calls calls3 a c (ts ++ us)
 sends_then device calls calls2 calls3 a b c ts us f g = record {
   made = g.made ∙ (ap (λ l. l ++ map gave us) f.made ∙ (append_assoc calls (map gave ts) (map gave us) ∙ ap (λ l. calls ++ l) (sym (map-append gave ts us))));
@@ -28,7 +28,7 @@ sends_then device calls calls2 calls3 a b c ts us f g = record {
   own = All-append (λ (t : Attempt). t.device ≡ device) ts us f.own g.own;
 }
 
--- one more was sent
+-- One more packet is sent.
 pub so_more : (device : List ℕ) (calls calls2 calls3 : List (Call × Reply)) (a b c : List Attempt) (n : ℕ) (tally : Tally) (packet : Packet) (went : Bool)
     → SendsSo device calls calls2 a b n tally → Sends device calls2 calls3 b c (attempt device packet went ∷ []) → SendsSo device calls calls3 a c (n + 1) (tallied tally went)
 so_more device calls calls2 calls3 a b c n tally packet went f g = record {
@@ -49,7 +49,7 @@ went_small tally (t ∷ ts) = let h = went_small (tallied tally t.went) ts in le
 at_most : (a n m : ℕ) → a ≤ 0 + n → n ≡ m → a ≤ m
 at_most a n m h e = omega (arith, h, e)
 
--- no count is above the number of packets
+-- The numbers of sent and of lost packets are at most the number of attempts.
 pub so_small : (device : List ℕ) (calls calls2 : List (Call × Reply)) (a b : List Attempt) (n : ℕ) (tally : Tally) → SendsSo device calls calls2 a b n tally → (tally.went ≤ n) × (tally.lost ≤ n)
 so_small device calls calls2 a b n tally f =
     let h = went_small (record { went = 0; lost = 0 }) f.tries in (
@@ -57,7 +57,7 @@ so_small device calls calls2 a b n tally f =
       subst (λ (k : Tally). k.lost ≤ n) (sym f.counts) (at_most (tally_of f.tries).lost (length f.tries) n h.1 f.many),
     )
 
--- it broke off after it sent that
+-- A device turn that stops early after it has sent some packets.
 pub breaks_after : (device : List ℕ) (calls calls2 calls3 : List (Call × Reply)) (a b c : List Attempt) (n : ℕ) (tally : Tally)
     → SendsSo device calls calls2 a b n tally → n < 256 → calls3 ≡ calls2 → c ≡ b → Breaks device calls calls3 a c
 breaks_after device calls calls2 calls3 a b c n tally f below same still = record {
@@ -66,7 +66,7 @@ breaks_after device calls calls2 calls3 a b c n tally f below same still = recor
   within = omega (arith, f.many, below);
 }
 
--- the last Transmit gave none
+-- The last Transmit returned no packet.
 pub until_none : (device : List ℕ) (calls calls2 calls3 : List (Call × Reply)) (a b c : List Attempt) (n : ℕ) (tally : Tally) (r : Reply)
     → SendsSo device calls calls2 a b n tally → n < 256 → GivesNone r → calls3 ≡ calls2 ++ transmit_call device r ∷ [] → c ≡ b → SendsUntil device calls calls3 a c tally false
 until_none device calls calls2 calls3 a b c n tally r f below none made same = record {
@@ -79,7 +79,7 @@ until_none device calls calls2 calls3 a b c n tally r f below none made same = r
   counts = f.counts;
 }
 
--- as many were sent as may be
+-- The maximum number of packets was sent.
 pub until_full : (device : List ℕ) (calls calls2 : List (Call × Reply)) (a b : List Attempt) (tally : Tally) → SendsSo device calls calls2 a b 256 tally → SendsUntil device calls calls2 a b tally true
 until_full device calls calls2 a b tally f = record {
   tries = f.tries;

@@ -1,4 +1,4 @@
--- Turns and Rounds one after another.
+-- Device turns and Rounds, one after another.
 use Rattle.std.proofs.Common.{◌≡◌, ◌↔◌, ℕ, zero, suc, ◌+◌, ◌<◌, Bool, true, false, IsTrue, List, [], ◌∷◌, ◌++◌, length, map, take, get_or, refl, sym, ap, subst, ◌∙◌, append-nil, append_assoc, length-append, arith}
 use Rattle.std.specs.List.{All, Contains}
 use Rattle.std.proofs.lemmas.List.{map-append, map_more, length-map, get_or-map}
@@ -14,17 +14,17 @@ use Rattle.click_links.specs.Forwarding.{IsForwarding, Forwards, packets_given}
 use Rattle.click_links.specs.Sweeps.{EachTurn, IsWork, IsNoWork, count_worked, Rounds, RoundsUntil, round}
 use Rattle.click_links.proofs.Gifts.{forwards_then, forwards_same}
 
--- the name of one of these devices is one of their names
+-- The name of one of these devices is one of their names.
 pub name_at : (devices : List Device) (k : ℕ) (d : Device) → k < length devices → d ≡ get_or devices k d → Contains (names_of devices) d.name
 name_at devices k d below is =
     subst (λ (x : Device). Contains (names_of devices) x.name) (sym is)
     (k, omega (arith, below, length-map devices (λ (x : Device). x.name)), get_or-map (λ (x : Device). x.name) devices k d (get_or devices k d).name below)
 
--- no turn was made
+-- No turn was made.
 pub each_none : (feeds : List FeedName) (calls : List (Call × Reply)) (a : List Attempt) (ts : List Turn) → ts ≡ [] → EachTurn [] feeds calls calls a a ts
 each_none feeds calls a ts none = subst (λ (l : List Turn). EachTurn [] feeds calls calls a a l) (sym none) (refl, refl)
 
--- a turn of one device more
+-- The turn of one more device.
 pub each_more : (ds : List (List ℕ)) (d : List ℕ) (feeds : List FeedName) (calls calls2 calls3 : List (Call × Reply)) (a b c : List Attempt) (ts : List Turn) (t : Turn)
     → EachTurn ds feeds calls calls2 a b ts → IsTurn d feeds calls2 calls3 b c t → EachTurn (ds ++ d ∷ []) feeds calls calls3 a c (ts ++ t ∷ [])
 each_more [] d feeds calls calls2 calls3 a b c [] t (same, still) turn =
@@ -34,7 +34,7 @@ each_more (e ∷ es) d feeds calls calls2 calls3 a b c [] t h turn = absurd h
 each_more (e ∷ es) d feeds calls calls2 calls3 a b c (u ∷ us) t (mid, sent, first, rest) turn =
     (mid, sent, first, each_more es d feeds mid calls2 calls3 sent b c us t rest turn)
 
--- the same of the devices so far, at a seat whose feeds are the same
+-- The turn of the next device in the list, at a seat with the same feeds.
 pub each_next : (devices : List Device) (k : ℕ) (d : Device) (feeds feeds2 : List FeedName) (calls calls2 calls3 : List (Call × Reply)) (a b c : List Attempt) (ts ts2 : List Turn) (t : Turn)
     → k < length devices → d ≡ get_or devices k d → feeds2 ≡ feeds → ts2 ≡ ts ++ t ∷ [] → EachTurn (names_of (take k devices)) feeds calls calls2 a b ts → IsTurn d.name feeds2 calls2 calls3 b c t
     → EachTurn (names_of (take (k + 1) devices)) feeds calls calls3 a c ts2
@@ -48,18 +48,18 @@ no_more : (n : ℕ) → (0 < n → ⊥) → n ≡ 0
 no_more zero h = refl
 no_more (suc n) h = absurd (h (omega arith))
 
--- whether a Round had work
+-- A Round that reports work found work.
 pub work_of : (worked : Bool) (r : Reply) → worked ≡ true → (IsTrue worked ↔ (0 < count_worked r)) → IsWork r
 work_of worked r is h = h.0 is
 
 pub no_work_of : (worked : Bool) (r : Reply) → worked ≡ false → (IsTrue worked ↔ (0 < count_worked r)) → IsNoWork r
 no_work_of worked r is h = no_more (count_worked r) (λ some. let e : worked ≡ true = h.1 some in absurd cc)
 
--- no Round was made
+-- No Round was made.
 pub rounds_none : (calls : List (Call × Reply)) → Rounds calls calls 0
 rounds_none calls = record { worked = []; made = sym (append-nil calls); each = All-nil IsWork; many = refl }
 
--- one more Round had work
+-- One more Round found work.
 pub rounds_more : (calls calls2 calls3 : List (Call × Reply)) (n : ℕ) (r : Reply) → Rounds calls calls2 n → calls3 ≡ calls2 ++ round r ∷ [] → IsWork r → Rounds calls calls3 (n + 1)
 rounds_more calls calls2 calls3 n r f made work = record {
   worked = f.worked ++ r ∷ [];
@@ -68,7 +68,7 @@ rounds_more calls calls2 calls3 n r f made work = record {
   many = length-append f.worked (r ∷ []) ∙ ap (λ k. k + 1) f.many;
 }
 
--- the last Round had no work
+-- The last Round found no work.
 pub rounds_end : (calls calls2 calls3 : List (Call × Reply)) (n : ℕ) (r : Reply) → Rounds calls calls2 n → calls3 ≡ calls2 ++ round r ∷ [] → IsNoWork r → n < 16 → RoundsUntil calls calls3 n false
 rounds_end calls calls2 calls3 n r f made none below = record {
   worked = f.worked;
@@ -79,7 +79,7 @@ rounds_end calls calls2 calls3 n r f made none below = record {
   ends = (below, r, refl, none);
 }
 
--- as many were made as may be
+-- The maximum number of Rounds was made.
 pub rounds_full : (calls calls2 : List (Call × Reply)) → Rounds calls calls2 16 → RoundsUntil calls calls2 16 true
 rounds_full calls calls2 f = record {
   worked = f.worked;
@@ -108,7 +108,7 @@ rounds_alone devices rs calls calls2 a made = record {
   each = gifts_rounds rs;
 }
 
--- Rounds send nothing
+-- Rounds send nothing.
 pub rounds_forward : (devices : List (List ℕ)) (calls calls2 calls3 : List (Call × Reply)) (n : ℕ) (a b c : List Attempt) → Forwards devices calls calls2 a b → Rounds calls2 calls3 n → c ≡ b → Forwards devices calls calls3 a c
 rounds_forward devices calls calls2 calls3 n a b c f r still =
     forwards_then devices calls calls2 calls3 a b c f (forwards_same devices calls2 calls3 calls3 b b c (rounds_alone devices r.worked calls2 calls3 b r.made) refl still)

@@ -1,4 +1,4 @@
--- The ends of links as contracts see them.
+-- The values of the ends of links in contracts.
 use Rattle.std.specs.Prelude.{◌≡◌, ℕ, Bool, false, List, [], ◌∷◌, ◌++◌, Option, Some, None, if◌then◌else◌}
 use Rattle.std.specs.Str.{bytes_eq}
 use Rattle.std.specs.declared.net.socket_addr.SocketAddr.{SocketAddr}
@@ -6,74 +6,78 @@ use Rattle.click_packet.specs.Packet.{Packet}
 use Rattle.click_rings.specs.Feeds.{Putting}
 use Rattle.click_links.specs.declared.datagram.Datagram.{Datagram}
 
--- datagrams that come in order, and how many have come
+-- The datagrams that arrive, in order, and how many have arrived.
 pub record Reading : Type 0 where
   pub all : List Datagram
   pub next : ℕ
 
--- the end of a link over UDP at which datagrams come: where its socket was asked for, its peer, the datagrams that came, and the last of them
+-- The receiving end of a link over UDP: the address that its socket was asked for, its peer, the
+-- datagrams that came, and the latest of them.
 pub record Hearing : Type 0 where
   pub here : SocketAddr
   pub there : SocketAddr
   pub came : List Datagram
   pub current : Datagram
 
--- no datagram: no bytes, of nobody
+-- No datagram: no bytes, and not from the peer.
 abbrev pub nothing : Datagram
 nothing = record { bytes = []; known = false }
 
--- a packet that was sent over the link of a device, and whether it went out
+-- A packet whose sending over the link of a device was attempted, and whether it was sent.
 pub record Attempt : Type 0 where
   pub device : List ℕ
   pub packet : Packet
   pub went : Bool
 
+-- The attempt for this device and packet, with this result.
 abbrev pub attempt : List ℕ → Packet → Bool → Attempt
 attempt device packet went = record { device = device; packet = packet; went = went }
 
--- the line of a link over UDP: its device, where its socket was asked for, and its peer, to which packets go
+-- The line of a link over UDP: its device, the address that its socket was asked for, and its peer,
+-- which its packets are sent to.
 pub record Line : Type 0 where
   pub device : List ℕ
   pub here : SocketAddr
   pub there : SocketAddr
 
--- the line of a device: the first that has it
+-- The line of a device: the first one that has it.
 abbrev pub line_of : List ℕ → List Line → Option Line
 line_of device [] = None
 line_of device (l ∷ ls) = if bytes_eq l.device device then Some l else line_of device ls
 
--- the lines over which packets go out, and the packets that were sent over them
+-- The lines over which packets are sent, and the packets whose sending over them was attempted.
 pub record Sending : Type 0 where
   pub lines : List Line
   pub tried : List Attempt
 
--- the packets that went out, each with its device
+-- The packets that were sent, each with its device.
 abbrev pub gone : List Attempt → List (List ℕ × Packet)
 gone [] = []
 gone (t ∷ ts) = (if t.went then (t.device, t.packet) ∷ [] else []) ++ gone ts
 
--- the one of a list of one
+-- The only item of a list.
 abbrev pub only : List (List ℕ × Bool) → List ℕ × Bool
 only [] = ([], false)
 only (x ∷ xs) = x
 
--- a packet that a feed was offered, and whether it took it
+-- A packet that a feed was offered, and whether the feed took it.
 pub record Offer : Type 0 where
   pub packet : Packet
   pub taken : Bool
 
+-- The offer of this packet, with this result.
 abbrev pub offer : Packet → Bool → Offer
 offer packet taken = record { packet = packet; taken = taken }
 
--- a feed, and what it was offered with whether it took each
+-- A feed, with the packets that it was offered and whether it took each.
 pub record Offering : Type 0 where
   pub feed : Putting
   pub asked : List Offer
 
--- how many packets of a link may wait to enter
+-- The number of packets that may wait in the feed of a link.
 abbrev pub link_places : ℕ
 link_places = 1024
 
--- a link's feed before its run: it was offered nothing, and has the places of a link
+-- The feed of a link before its run: it was offered nothing, and has the places of a link.
 abbrev pub IsNewFeed : Offering → Type 0
 IsNewFeed o = (o.feed.put ≡ []) × (o.asked ≡ []) × (o.feed.places ≡ link_places)

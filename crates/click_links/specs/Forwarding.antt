@@ -1,4 +1,5 @@
--- What a forwarder does in all, however its turns are made: which calls its seat made, and that what they gave is what was sent.
+-- All that a forwarder does, however its turns are made: the calls that its seat made, and that
+-- exactly the packets that these returned were sent.
 use Rattle.std.specs.Prelude.{◌≡◌, ℕ, ◌≤◌, List, [], ◌∷◌, ◌++◌, length, map, Some, None, if◌then◌else◌}
 use Rattle.std.specs.List.{All, Contains}
 use Rattle.std.specs.Str.{bytes_eq}
@@ -9,7 +10,7 @@ use Rattle.click_router.specs.declared.call.Reply.{Reply}
 use Rattle.click_router.specs.declared.call.Reply.TheVariants as reply
 use Rattle.click_links.specs.Ends.{Attempt}
 
--- the packet that a reply has to send, if it has one
+-- The packet that a reply has to send, if it has one, as a list.
 abbrev pub packets_in : Reply → List Packet
 packets_in (reply.Value value) = []
 packets_in reply.Done = []
@@ -20,7 +21,7 @@ packets_in (reply.Sent None) = []
 packets_in (reply.Sent (Some p)) = p ∷ []
 packets_in reply.NoDevice = []
 
--- the packets that a call gave by its reply, each with the device that gave it
+-- The packets that a call returned in its reply, each with the device that transmitted it.
 abbrev pub given : Call → Reply → List (List ℕ × Packet)
 given (call.Read name text) r = []
 given (call.Write name text) r = []
@@ -32,16 +33,17 @@ given (call.Poll from taken) r = []
 given call.Round r = []
 given (call.Transmit from) r = map (λ p. (from, p)) (packets_in r)
 
--- the packets that the Transmits among these calls gave, in order, each with its device
+-- The packets that the Transmits among these calls returned, in order, each with its device.
 abbrev pub packets_given : List (Call × Reply) → List (List ℕ × Packet)
 packets_given [] = []
 packets_given (m ∷ ms) = given m.0 m.1 ++ packets_given ms
 
--- what was sent, in order, with its device
+-- The packets whose sending was attempted, in order, each with its device.
 abbrev pub sendings : List Attempt → List (List ℕ × Packet)
 sendings tries = map (λ t. (t.device, t.packet)) tries
 
--- a forwarder of these devices makes such calls: polls of up to 32 packets of one of them, Transmits of one of them, and Rounds
+-- A forwarder of these devices may make this call: a Poll of up to 32 packets of one of them, a
+-- Transmit of one of them, or a Round.
 abbrev pub IsForwarding : List (List ℕ) → Call → Type 0
 IsForwarding devices (call.Read name text) = ⊥
 IsForwarding devices (call.Write name text) = ⊥
@@ -53,7 +55,9 @@ IsForwarding devices (call.Poll from taken) = Contains devices from × (length t
 IsForwarding devices call.Round = Unit {0}
 IsForwarding devices (call.Transmit from) = Contains devices from
 
--- The seat's calls grew by those of a forwarder of these devices, and just the packets that its Transmits gave were sent, each by the link of the device that gave it, in order, each once.
+-- What a forwarder of these devices did. The seat's calls grew by calls of such a forwarder.
+-- Sending was attempted for exactly the packets that its Transmits returned, each over the link of
+-- the device that transmitted it, in order and exactly once.
 pub record Forwards (devices : List (List ℕ)) (calls calls2 : List (Call × Reply)) (before after : List Attempt) : Type 0 where
   pub made : List (Call × Reply)
   pub tries : List Attempt
@@ -62,12 +66,12 @@ pub record Forwards (devices : List (List ℕ)) (calls calls2 : List (Call × Re
   pub own : All (λ m. IsForwarding devices m.0) made
   pub each : packets_given made ≡ sendings tries
 
--- the packets that were sent by the link of a device, in order
+-- The packets whose sending over the link of a device was attempted, in order.
 abbrev pub sent_by : List ℕ → List Attempt → List Packet
 sent_by device [] = []
 sent_by device (t ∷ ts) = (if bytes_eq t.device device then t.packet ∷ [] else []) ++ sent_by device ts
 
--- the packets that a call gave by its reply, where it is a Transmit of this device
+-- The packets that a call returned in its reply, if it is a Transmit of this device.
 abbrev pub given_by : List ℕ → Call → Reply → List Packet
 given_by device (call.Read name text) r = []
 given_by device (call.Write name text) r = []
@@ -79,7 +83,7 @@ given_by device (call.Poll from taken) r = []
 given_by device call.Round r = []
 given_by device (call.Transmit from) r = if bytes_eq from device then packets_in r else []
 
--- the packets that the Transmits of a device gave, in order
+-- The packets that the Transmits of a device returned, in order.
 abbrev pub gifts_by : List ℕ → List (Call × Reply) → List Packet
 gifts_by device [] = []
 gifts_by device (m ∷ ms) = given_by device m.0 m.1 ++ gifts_by device ms

@@ -1,4 +1,4 @@
--- What a turn of a forwarder does.
+-- What a device turn does.
 use Rattle.std.specs.Prelude.{◌≡◌, ℕ, ◌+◌, ◌<◌, ◌⊎◌, Bool, true, false, List, [], ◌∷◌, ◌++◌, length, map, Some}
 use Rattle.std.specs.List.{All}
 use Rattle.click_packet.specs.Packet.{Packet}
@@ -15,15 +15,15 @@ use Rattle.click_links.specs.declared.turns.Tally.{Tally}
 use Rattle.click_links.specs.declared.turns.Turn.{Turn}
 use Rattle.click_links.specs.Ends.{Attempt}
 
--- the seat is the one of that number at that desk with those feeds, as before
+-- The seat has the same number, desk and feeds.
 abbrev pub SameSeat : SeatState → SeatState → Type 0
 SameSeat old new = (new.desk ≡ old.desk) × (new.number ≡ old.number) × (new.feeds ≡ old.feeds)
 
--- the names of these devices
+-- The names of these devices.
 abbrev pub names_of : List Device → List (List ℕ)
 names_of devices = map (λ d. d.name) devices
 
--- how many packets entered by a reply
+-- The number of packets that entered, by a reply.
 abbrev pub count_entered : Reply → ℕ
 count_entered (reply.Value value) = 0
 count_entered reply.Done = 0
@@ -33,60 +33,64 @@ count_entered (reply.Worked count) = 0
 count_entered (reply.Sent packet) = 0
 count_entered reply.NoDevice = 0
 
--- the Transmit that gave a packet, with its reply
+-- The Transmit that returned a packet, with its reply.
 abbrev pub gave : Attempt → Call × Reply
 gave t = (transmit t.device, reply.Sent (Some t.packet))
 
--- a Transmit, with its reply
+-- A Transmit, with its reply.
 abbrev pub transmit_call : List ℕ → Reply → Call × Reply
 transmit_call device r = (transmit device, r)
 
--- each is of this device
+-- Each of these attempts is of this device.
 abbrev pub AreOf : List ℕ → List Attempt → Type 0
 AreOf device tries = All (λ t. t.device ≡ device) tries
 
--- one packet more was sent
+-- These numbers after one more attempt.
 abbrev pub tallied : Tally → Bool → Tally
 tallied n true = record { went = n.went + 1; lost = n.lost }
 tallied n false = record { went = n.went; lost = n.lost + 1 }
 
--- so many went out, and so many did not
+-- These numbers after these attempts.
 abbrev pub tally_after : Tally → List Attempt → Tally
 tally_after n [] = n
 tally_after n (t ∷ ts) = tally_after (tallied n t.went) ts
 
+-- The numbers of packets that were sent and lost in these attempts.
 abbrev pub tally_of : List Attempt → Tally
 tally_of ts = tally_after (record { went = 0; lost = 0 }) ts
 
--- The seat's calls grew by Transmits of the device, each of which gave a packet, and just these packets were sent, in this order.
+-- The seat's calls grew by Transmits of the device, each of which returned a packet. Sending was
+-- attempted for exactly these packets, in this order.
 pub record Sends (device : List ℕ) (calls calls2 : List (Call × Reply)) (before after tries : List Attempt) : Type 0 where
   pub made : calls2 ≡ calls ++ map gave tries
   pub sent : after ≡ before ++ tries
   pub own : AreOf device tries
 
--- it sent that, so many packets, of which so many went out
+-- The device turn has sent `count` packets so far, with these numbers.
 pub record SendsSo (device : List ℕ) (calls calls2 : List (Call × Reply)) (before after : List Attempt) (count : ℕ) (tally : Tally) : Type 0 where
   pub tries : List Attempt
   pub sends : Sends device calls calls2 before after tries
   pub many : length tries ≡ count
   pub counts : tally ≡ tally_of tries
 
--- it broke off after it sent that, fewer packets than a turn may send
+-- The device turn stopped early, after it sent fewer packets than the maximum.
 pub record Breaks (device : List ℕ) (calls calls2 : List (Call × Reply)) (before after : List Attempt) : Type 0 where
   pub tries : List Attempt
   pub sends : Sends device calls calls2 before after tries
   pub within : length tries < 256
 
--- either as many as may be, or fewer, and then one that is not as the others
+-- Either there are `most` items and nothing follows, or fewer, and one reply follows that satisfies
+-- `Other`.
 abbrev pub Ends : (Reply → Type 0) → ℕ → Bool → ℕ → List Reply → Type 0
 Ends Other most true count last = (count ≡ most) × (last ≡ [])
 Ends Other most false count last = (count < most) × (r : Reply) × (last ≡ r ∷ []) × Other r
 
--- the reply has no packet to send
+-- The reply has no packet to send.
 abbrev pub GivesNone : Reply → Type 0
 GivesNone r = sends_packet r ≡ false
 
--- the calls grew by Transmits of the device, all but the last of which gave a packet, up to 256, and just these packets were sent
+-- The seat's calls grew by Transmits of the device. All returned a packet, up to 256, or all but
+-- the last one. Sending was attempted for exactly these packets, in order.
 pub record SendsUntil (device : List ℕ) (calls calls2 : List (Call × Reply)) (before after : List Attempt) (tally : Tally) (more : Bool) : Type 0 where
   pub tries : List Attempt
   pub last : List Reply
@@ -96,7 +100,8 @@ pub record SendsUntil (device : List ℕ) (calls calls2 : List (Call × Reply)) 
   pub ends : Ends GivesNone 256 more (length tries) last
   pub counts : tally ≡ tally_of tries
 
--- A turn: one poll of the device, then Transmits of it until one gave no packet, or 256 gave one. Just the packets that they gave were sent, in order, each once.
+-- A device turn: one poll of the device, then Transmits of it until one returned no packet or 256
+-- returned one. Sending was attempted for exactly these packets, in order and exactly once.
 pub record IsTurn (device : List ℕ) (feeds : List FeedName) (calls calls2 : List (Call × Reply)) (before after : List Attempt) (turn : Turn) : Type 0 where
   pub taken : List Packet
   pub polled : Reply
@@ -104,18 +109,18 @@ pub record IsTurn (device : List ℕ) (feeds : List FeedName) (calls calls2 : Li
   pub entered : turn.entered ≡ count_entered polled
   pub sends : SendsUntil device (calls ++ (poll device taken, polled) ∷ []) calls2 before after turn.tally turn.more
 
--- the poll was made, and then it broke off
+-- A device turn that made its poll and then stopped early.
 pub record IsBrokenLater (device : List ℕ) (feeds : List FeedName) (calls calls2 : List (Call × Reply)) (before after : List Attempt) : Type 0 where
   pub taken : List Packet
   pub polled : Reply
   pub may : MayTake feeds device 32 taken polled
   pub breaks : Breaks device (calls ++ (poll device taken, polled) ∷ []) calls2 before after
 
--- A turn that broke off: at the poll, and nothing was done; or later.
+-- A device turn that stopped early: either at its poll, and nothing was done, or later.
 abbrev pub IsBroken : List ℕ → List FeedName → List (Call × Reply) → List (Call × Reply) → List Attempt → List Attempt → Type 0
 IsBroken device feeds calls calls2 before after =
     ((calls2 ≡ calls) × (after ≡ before)) ⊎ IsBrokenLater device feeds calls calls2 before after
 
--- it did nothing: no packet entered, and none was sent
+-- The device turn found no work: no packet entered, and none was sent or lost.
 abbrev pub IsIdleTurn : Turn → Type 0
 IsIdleTurn turn = (turn.entered ≡ 0) × (turn.tally.went ≡ 0) × (turn.tally.lost ≡ 0)

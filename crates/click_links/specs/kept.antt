@@ -1,2 +1,2 @@
--- What the code keeps on its way; no public contract cites it.
+-- Definitions that only the proofs of this crate use; no public contract cites them.
 pub mod Forwarded

@@ -1,9 +1,10 @@
-//! What an operator reads of a link while it runs.
+//! The counts of a link, which an operator reads while it runs.
 
 use crate::datagram::DatagramFate;
 use std::sync::atomic::{AtomicU64, Ordering};
 
-/// Counts of a link, which its receiver and the forwarder add to as they go, and anybody may read. No clause speaks of their values.
+/// The counts of a link. Its receiver and the forwarder add to them, and any thread may read them.
+/// No contract mentions their values.
 #[derive(Drop)]
 pub struct Counts {
     received: AtomicU64,
@@ -16,24 +17,24 @@ pub struct Counts {
     failed: AtomicU64,
 }
 
-/// The counts of a link as they were read, one after another.
+/// The counts of a link, read one after another.
 #[derive(Clone, Copy, Debug, PartialEq, Eq)]
 pub struct CountSnapshot {
     /// Datagrams that came.
     pub received: u64,
-    /// Of these, the ones from elsewhere than the peer.
+    /// Of these, the ones that were not from the peer.
     pub strangers: u64,
     /// Of these, the ones of more than 1,600 bytes.
     pub too_long: u64,
-    /// Of these, the ones that the feed handed back.
+    /// Of these, the ones for which the feed was full.
     pub no_room: u64,
     /// Of these, the ones for whose packet there was no memory.
     pub no_memory: u64,
     /// Packets of the feed that entered the router.
     pub entered: u64,
-    /// Packets that went out.
+    /// Packets that were sent.
     pub sent: u64,
-    /// Packets that did not go out, and are lost.
+    /// Packets that could not be sent, and are lost.
     pub failed: u64,
 }
 
@@ -46,7 +47,7 @@ fn read(count: &AtomicU64) -> u64 {
 }
 
 impl Counts {
-    /// Nothing was counted.
+    /// Returns counts of zero.
     pub fn new() -> Counts {
         Counts {
             received: AtomicU64::new(0),
@@ -60,7 +61,7 @@ impl Counts {
         }
     }
 
-    /// What was counted so far.
+    /// Returns what was counted so far.
     pub fn read(&self) -> CountSnapshot {
         CountSnapshot {
             received: read(&self.received),
@@ -74,7 +75,7 @@ impl Counts {
         }
     }
 
-    /// A datagram came, with this fate.
+    /// Counts a datagram with this fate.
     pub(crate) fn came(&self, fate: DatagramFate) {
         one_more(&self.received);
         match fate {
@@ -86,12 +87,12 @@ impl Counts {
         }
     }
 
-    /// So many packets of the feed entered.
+    /// Counts `count` packets of the feed that entered.
     pub(crate) fn enter(&self, count: u64) {
         self.entered.fetch_add(count, Ordering::SeqCst);
     }
 
-    /// A packet was sent, and went out or is lost.
+    /// Counts a packet that was sent or lost.
     pub(crate) fn tried(&self, went: bool) {
         one_more(if went { &self.sent } else { &self.failed });
     }

@@ -1,4 +1,4 @@
-//! Datagrams, and what becomes of them.
+//! Datagrams, and their fates.
 
 use click_base::sequence::Sequence;
 
@@ -6,20 +6,20 @@ use click_base::sequence::Sequence;
 #[derive(Drop)]
 pub struct Datagram {
     pub bytes: Sequence<u8>,
-    /// It is from the link's peer.
+    /// Whether it is from the link's peer.
     pub known: bool,
 }
 
-/// What became of a datagram that came.
+/// The fate of a datagram that came: put into the feed, or dropped for one of four causes.
 #[derive(Clone, Copy, Debug, PartialEq, Eq)]
 pub enum DatagramFate {
-    /// It is a packet of the feed.
+    /// It became a packet of the feed.
     Put,
     /// It is not from the peer.
     Stranger,
-    /// It has more bytes than a packet.
+    /// It has more bytes than a packet may have.
     TooLong,
-    /// The feed handed its packet back.
+    /// The feed was full.
     NoRoom,
     /// There was no memory for its packet.
     NoMemory,

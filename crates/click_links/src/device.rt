@@ -5,7 +5,7 @@ ghost use Rattle.std.specs.Prelude.{◌≡◌};
 use crate::counts::Counts;
 use click_base::sequence::Sequence;
 
-/// A device of the configuration that a link serves, by its name there, with the link's counts.
+/// A device of the configuration that has a link: its name, and the link's counts.
 #[derive(Drop)]
 pub struct Device {
     pub name: Sequence<u8>,
@@ -13,7 +13,7 @@ pub struct Device {
 }
 
 impl Device {
-    /// The device of this name, of whose link nothing was counted.
+    /// Returns the device of this name, with counts of zero.
     pub fn new(name: Sequence<u8>) -> Device
         ensures { result.name ≡ name }
     {

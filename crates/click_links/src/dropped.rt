@@ -1,25 +1,25 @@
-//! How many datagrams were dropped.
+//! The numbers of dropped datagrams.
 
 ghost use Rattle.std.specs.Prelude.{◌≡◌, ◌-◌, ◌^◌};
 ghost use Rattle.click_links.specs.Fates.{added, AllBelow, nothing_dropped};
 
 use crate::datagram::DatagramFate;
 
-/// How many datagrams were dropped, by why.
+/// The numbers of dropped datagrams, by cause.
 #[derive(Clone, Copy, Debug, PartialEq, Eq)]
 pub struct Dropped {
-    /// From elsewhere than the peer.
+    /// Those that were not from the peer.
     pub strangers: u64,
-    /// Of more than 1,600 bytes.
+    /// Those of more than 1,600 bytes.
     pub too_long: u64,
-    /// Handed back by the feed.
+    /// Those for which the feed was full.
     pub no_room: u64,
-    /// Without memory for their packets.
+    /// Those for whose packet there was no memory.
     pub no_memory: u64,
 }
 
 impl Dropped {
-    /// None.
+    /// Returns numbers of zero.
     pub fn none() -> Dropped
         ensures { result ≡ nothing_dropped }
     {
@@ -31,7 +31,7 @@ impl Dropped {
         }
     }
 
-    /// With one more of this fate.
+    /// Counts one more datagram with this fate.
     pub(crate) fn add(&mut self, fate: DatagramFate)
         requires { AllBelow self.old (2 ^ 64 - 1) }
         ensures { self.new ≡ added self.old fate }

@@ -1,4 +1,4 @@
-//! What the sweeps of a run are made with.
+//! The forwarder: the seat and the sending end with which the threads of a run sweep.
 
 ghost use Rattle.std.specs.Prelude.{◌≡◌, Some};
 ghost use Rattle.click_links.specs.Forwarding.{Forwards};
@@ -8,7 +8,8 @@ use crate::link::Outbound;
 use click_desk::Seat;
 use std::marker::{Brand, PhantomData};
 
-/// What a run began with: its seat, the names of its devices, and what was sent before. Each run picks it.
+/// What a run began with, as ghost state of a type. It is the seat, the names of the devices, and
+/// the packets that were sent before. Each run chooses it.
 pub(crate) trait RunStart {
     ghost use Rattle.std.specs.Prelude.{ℕ, List, Option};
     ghost use Rattle.click_rings.specs.Feeds.{FeedName};
@@ -46,7 +47,8 @@ impl RunStart for Brand {
     ghost tried = { [] };
 }
 
-/// The seat of a run and the end at which packets go out, which one thread at a time has. All that was done with them since the run began is what a forwarder does.
+/// The seat of a run and the end that sends its packets, used by one thread at a time. By its
+/// invariant, all that was done with them since the run began is what `Forwards` says.
 #[derive(Drop)]
 pub(crate) struct Forwarder<T, S: Outbound, B: RunStart> {
     pub(crate) seat: Seat<T>,
@@ -57,7 +59,7 @@ pub(crate) struct Forwarder<T, S: Outbound, B: RunStart> {
 }
 
 impl<T, S: Outbound, B: RunStart> Forwarder<T, S, B> {
-    /// With which nothing was done since.
+    /// Returns a forwarder with which nothing was done since the run began.
     #[tactic(auto, using(crate::proofs::ForwarderEquations::known_none))]
     pub(crate) fn new(seat: Seat<T>, sender: S) -> Forwarder<T, S, B>
         requires same { (Some seat.desk ≡ B.desk) × (seat.number ≡ B.number) × (seat.feeds ≡ B.feeds) }
@@ -70,7 +72,7 @@ impl<T, S: Outbound, B: RunStart> Forwarder<T, S, B> {
         }
     }
 
-    /// What is left of it.
+    /// Returns the seat and the sending end.
     #[tactic(auto, using(crate::proofs::ForwarderEquations::forwards_of))]
     pub(crate) fn into_parts(self) -> (Seat<T>, S)
         ensures same { (Some result.0.desk ≡ B.desk) × (result.0.number ≡ B.number) × (result.0.feeds ≡ B.feeds) }

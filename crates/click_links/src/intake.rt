@@ -1,4 +1,4 @@
-//! A feed, and what it was offered.
+//! A feed, with what it was offered.
 
 ghost use Rattle.std.specs.Prelude.{◌≡◌, ◌<◌, ◌++◌, ◌∷◌, [], length, true, if◌then◌else◌};
 ghost use Rattle.click_links.specs.Ends.{offer};
@@ -8,7 +8,8 @@ use click_rings::Feed;
 use http_server::Log;
 use std::marker::Model;
 
-/// A feed with a list of the packets that it was offered, and whether it took each. The list is known to proofs alone.
+/// A feed, with the list of packets that it was offered and whether it took each. The list is ghost
+/// state.
 #[derive(Drop)]
 pub struct Intake {
     feed: Feed,
@@ -25,7 +26,7 @@ impl Model for Intake {
 }
 
 impl Intake {
-    /// A feed that was offered nothing here.
+    /// Returns the intake of a feed, with an empty list.
     pub fn of(feed: Feed) -> Intake
         ensures { result ≡ record { feed = feed; asked = [] } }
     {
@@ -35,14 +36,15 @@ impl Intake {
         }
     }
 
-    /// The feed.
+    /// Returns the feed.
     pub fn into_feed(self) -> Feed
         ensures { result ≡ self.feed }
     {
         self.feed
     }
 
-    /// Offers a packet to the feed. Says whether it took it: never no before as many were put as it has places. It waits for nobody.
+    /// Offers a packet to the feed. Returns whether the feed took it, which it does at least as
+    /// long as fewer packets were put than it has places. Never blocks.
     pub fn offer(&mut self, room: PacketRoom, packet: &Packet) -> bool
         ensures ring { (self.new.feed.ring ≡ self.old.feed.ring) × (self.new.feed.places ≡ self.old.feed.places) }
         ensures asked { self.new.asked ≡ self.old.asked ++ offer packet.now result ∷ [] }

@@ -1,4 +1,7 @@
-//! Links: datagrams that come are packets of a device's feed, and packets that a device gives go out as datagrams.
+//! Links: devices of a configuration that are connected to peers outside the router.
+//!
+//! A datagram that arrives over a link becomes a packet of its device, and a packet that the device
+//! transmits leaves as a datagram.
 #![tactic(auto)]
 
 mod counts;

@@ -1,4 +1,4 @@
-//! The links of a run, one by one.
+//! The links of a run, which are added one by one.
 
 ghost use Rattle.std.specs.Prelude.{◌≡◌, ◌++◌, ◌∷◌, [], map, IfOk};
 ghost use Rattle.std.specs.List.{All};
@@ -13,10 +13,11 @@ use click_rings::opening::{FeedFault, feed};
 use click_rings::{Feed, Inlet};
 use std::alloc::{AllocError, Global};
 
-/// How many packets may wait in the feed of a link.
+/// The number of packets that may wait in the feed of a link.
 const PLACES: usize = 1024;
 
-/// The links of a run: the receiver of each, which has not run, with a feed of 1,024 places, and the inlet of that, in one order.
+/// The links of a run: a receiver and an inlet for each link, in one order. No receiver has run.
+/// The feed of each has 1,024 places, and the inlet is that of the feed.
 #[derive(Drop)]
 pub struct Links<L> {
     pub receivers: Vec<Receiving<L>>,
@@ -25,7 +26,7 @@ pub struct Links<L> {
     ghost fresh: { All (λ r. IsNewFeed r.intake) receivers.items },
 }
 
-/// A feed of the device, with its inlet.
+/// Creates a feed for the device, with its inlet. Fails with out of memory.
 fn feed_of(alloc: Global, name: &[u8]) -> Result<(Feed, Inlet), AllocError>
     ensures pair { IfOk result (λ r. r.1 ≡ record { device = name.now; ring = r.0.ring }) }
     ensures empty { IfOk result (λ r. (r.0.put ≡ []) × (r.0.places ≡ link_places)) }
@@ -38,7 +39,7 @@ fn feed_of(alloc: Global, name: &[u8]) -> Result<(Feed, Inlet), AllocError>
 }
 
 impl<L: Drop> Links<L> {
-    /// No links.
+    /// Returns no links.
     pub fn none(alloc: Global) -> Links<L>
         ensures { result.receivers.items ≡ [] }
     {
@@ -48,7 +49,8 @@ impl<L: Drop> Links<L> {
         }
     }
 
-    /// These links, and one more behind them: datagrams that come at this end are packets of the device of this name. Its feed has 1,024 places.
+    /// Adds a link: datagrams that come at this end are packets of the device with this name. Its
+    /// feed has 1,024 places. Fails with out of memory.
     pub fn with(self, alloc: Global, name: &[u8], link: L) -> Result<Links<L>, AllocError>
         ensures names { IfOk result (λ all. map (λ r. r.device) all.receivers.items ≡ map (λ r. r.device) self.receivers.items ++ name.now ∷ []) }
         ensures ends { IfOk result (λ all. map (λ r. r.link) all.receivers.items ≡ map (λ r. r.link) self.receivers.items ++ link ∷ []) }
@@ -64,7 +66,8 @@ impl<L: Drop> Links<L> {
         Ok(Links { receivers, inlets })
     }
 
-    /// Their devices, of whose links nothing was counted, in the same order.
+    /// Returns the devices of the links, in the same order, with counts of zero. Fails with out of
+    /// memory.
     pub fn devices(&self, alloc: Global) -> Result<Vec<Device>, AllocError>
         ensures { IfOk result (λ devices. names_of devices.items ≡ map (λ r. r.device) self.now.receivers.items) }
     {

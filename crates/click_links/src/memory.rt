@@ -1,4 +1,4 @@
-//! Links over memory.
+//! Links in memory.
 
 ghost use Rattle.std.specs.Prelude.{◌≡◌, ◌++◌, ◌∷◌, [], take, ◌-◌, slice_index_or, false, IfOk, OnErr, if◌then◌else◌};
 ghost use Rattle.click_links.specs.Ends.{nothing};
@@ -11,7 +11,7 @@ use click_packet::StoredPacket;
 use std::alloc::{AllocError, Global};
 use std::marker::Model;
 
-/// Datagrams that come in their order. After the last the link fails.
+/// A receiving end at which these datagrams come, in order. After the last one the link fails.
 #[derive(Drop)]
 pub struct MemoryIn {
     all: Vec<Datagram>,
@@ -30,7 +30,7 @@ impl Model for MemoryIn {
 }
 
 impl MemoryIn {
-    /// These datagrams, of which none has come.
+    /// Returns a receiving end at which no datagram has come yet.
     pub fn new(all: Vec<Datagram>) -> MemoryIn
         ensures { result ≡ record { all = all.items; next = 0 } }
     {
@@ -70,7 +70,8 @@ impl Inbound for MemoryIn {
     }
 }
 
-/// Keeps the packets that went out over the links of these devices, up to so many in all. One more, one of another device, or one for which there is no memory, is lost.
+/// A sending end that stores up to `most` packets that are sent over the links of these devices. A
+/// packet of another device, one more packet, or one for which there is no memory, is lost.
 #[derive(Drop)]
 pub struct MemoryOut {
     alloc: Global,
@@ -94,7 +95,7 @@ impl Model for MemoryOut {
 impl MemoryOut {
     ghost use Rattle.click_links.specs.Ends.{gone};
 
-    /// Room for so many packets of these devices, of which none was sent.
+    /// Returns a sending end for up to `most` packets of these devices, with nothing sent yet.
     pub fn new(alloc: Global, devices: Vec<Sequence<u8>>, most: usize) -> MemoryOut
         ensures { result ≡ [] }
     {
@@ -107,7 +108,7 @@ impl MemoryOut {
         }
     }
 
-    /// The packets that went out, oldest first, each with its device.
+    /// Returns the packets that were sent, oldest first, each with its device.
     pub fn packets(&self) -> &[(Sequence<u8>, StoredPacket)]
         ensures { result.now ≡ gone self.now }
     {
@@ -132,7 +133,8 @@ fn has_device(devices: &[Sequence<u8>], device: &Sequence<u8>) -> bool {
         .any(|name| name.as_slice() == device.as_slice())
 }
 
-/// Keeps a copy of the packet, with its device, where it may and there is memory for it. Says whether it did.
+/// Stores a copy of the packet, with its device, if `open` allows it and there is memory. Returns
+/// whether it did.
 fn keep(
     alloc: Global,
     open: bool,

@@ -1,16 +1,17 @@
-//! Sleep where there is nothing to do.
+//! Sleep for a forwarder that found no work, longer each time.
 
 use std::sync::Wait;
 use std::thread::Parker;
 use std::time::Duration;
 
-/// How long the first sleep is at most, in microseconds.
+/// The maximum duration of the first sleep, in microseconds.
 const FIRST: u64 = 200;
 
-/// How long a sleep is at most, in microseconds. A receiver wakes a forwarder before; others that give packets to a device do not.
+/// The maximum duration of a sleep, in microseconds. A receiver wakes a forwarder earlier; other
+/// threads that give a device packets do not.
 const LONGEST: u64 = 20_000;
 
-/// Sleeps until woken, each at most twice as long as the one before it.
+/// A sequence of sleeps, the maximum duration of each being twice that of the one before it.
 #[derive(Drop)]
 pub(crate) struct Pause {
     next: u64,
@@ -21,13 +22,13 @@ impl Pause {
         Pause { next: FIRST }
     }
 
-    /// Sleeps until somebody wakes it, or its time is over.
+    /// Sleeps until `wake` is signaled, or for the maximum duration.
     pub(crate) fn sleep<R: Wait>(&mut self, rt: &R, wake: &Parker) {
         wake.park_timeout(rt, Duration::from_micros(self.next));
         self.next = self.next.saturating_mul(2).min(LONGEST);
     }
 
-    /// The next sleep is a first one again.
+    /// Makes the next sleep as short as the first.
     pub(crate) fn begin_anew(&mut self) {
         self.next = FIRST;
     }

@@ -1,4 +1,4 @@
-//! What comes is put in a feed.
+//! Receivers: datagrams that arrive are put into a feed.
 
 ghost use Rattle.std.specs.Prelude.{◌≡◌, ◌-◌, ◌^◌, ◌++◌, ◌∷◌, [], length, IfOk, OnOk, OnErr, MatchOption};
 ghost use Rattle.click_links.specs.Fates.{put_of, asked_of, AllBelow, IsDue, Hears, Steps, Receives, heard};
@@ -17,20 +17,22 @@ use std::thread::Parker;
 /// Why a receiver ended.
 #[derive(Clone, Copy, Debug, PartialEq, Eq)]
 pub enum Ended {
-    /// It was told to stop.
+    /// A stop was requested.
     Stopped,
     /// The link failed.
     Link,
 }
 
-/// What became of a receiver.
+/// The outcome of a receiver.
 #[derive(Clone, Copy, Debug, PartialEq, Eq)]
 pub struct Received {
     pub dropped: Dropped,
     pub ended: Ended,
 }
 
-/// Offers the packet of the datagram that came last to the feed, where it is from the peer and short enough, and where there is memory for it.
+/// Offers the packet of the latest datagram to the feed, and returns the datagram's fate. Does not
+/// offer it if the datagram is not from the peer or too long, or if there is no memory for its
+/// packet.
 fn offer_one<L: Inbound>(alloc: Global, intake: &mut Intake, link: &L) -> DatagramFate
     ensures ring { (intake.new.feed.ring ≡ intake.old.feed.ring) × (intake.new.feed.places ≡ intake.old.feed.places) }
     ensures asked { intake.new.asked ≡ intake.old.asked ++ asked_of result (L.current link.now).bytes }
@@ -55,7 +57,7 @@ fn offer_one<L: Inbound>(alloc: Global, intake: &mut Intake, link: &L) -> Datagr
     }
 }
 
-/// Waits for a datagram, and offers its packet to the feed.
+/// Blocks until a datagram comes or the link's timeout is over, and offers its packet to the feed.
 fn receive_one<L: Inbound>(
     alloc: Global,
     intake: &mut Intake,
@@ -73,7 +75,8 @@ fn receive_one<L: Inbound>(
     }
 }
 
-/// Waits for a datagram, and counts it. Says whether its packet was put.
+/// Blocks until a datagram comes or the link's timeout is over, and counts it. Returns whether its
+/// packet was put.
 fn receive_next<L: Inbound>(
     alloc: Global,
     intake: &mut Intake,
@@ -96,7 +99,8 @@ fn receive_next<L: Inbound>(
     }
 }
 
-/// Puts what comes in a feed, as `receive` does, and tells of each datagram whether its packet was put.
+/// Puts what comes into a feed, as `receive` does. Calls `tell` after each datagram, and after each
+/// timeout, with whether a packet was put.
 pub(crate) fn receive_telling<L: Inbound, F: FnMut(bool, &L)>(
     alloc: Global,
     intake: &mut Intake,
@@ -129,7 +133,10 @@ pub(crate) fn receive_telling<L: Inbound, F: FnMut(bool, &L)>(
     }
 }
 
-/// Puts what comes in a feed, until told to stop or the link fails. It waits for nobody but the link, counts each datagram, and wakes whoever takes the packets after each that it put.
+/// Puts the packets of arriving datagrams into a feed, until a stop is requested or the link fails.
+///
+/// Counts each datagram, and wakes the thread that takes the packets after each one that was put.
+/// Blocks on the link only. Out of memory does not end it: the datagram is dropped and counted.
 pub fn receive<L: Inbound>(
     alloc: Global,
     intake: &mut Intake,

@@ -1,4 +1,5 @@
-//! Links that run: a receiver for each, and one forwarder for all, each in a thread of its own.
+//! Runs of links: a receiver for each link and one forwarder for all of them, each in a thread of
+//! its own.
 
 ghost use Rattle.std.specs.Prelude.{◌≡◌, ◌≤◌, length, map, vec_len, vec_capacity, Some};
 ghost use Rattle.std.specs.List.{AllZip};
@@ -26,10 +27,14 @@ use std::sync::atomic::{AtomicBool, Ordering};
 use std::thread;
 use std::thread::Threads;
 
-/// The most sweeps that a forwarder makes once the run is over: as many as empty a feed of 4,096 places, and as many again. A configuration that makes packets of its own would not let it end.
+/// The maximum number of sweeps of a forwarder after the run is over.
+///
+/// They suffice to empty a feed of 4,096 places twice. Without a maximum, a configuration that
+/// emits packets of its own would keep the forwarder from ending.
 const MOST_LAST: u32 = 256;
 
-/// A receiver: its device, the feed of that, the end at which its datagrams come, and what became of it, where it has run.
+/// A receiver. It has its device, the device's feed, the receiving end of the link, and its outcome
+/// if it has run.
 #[derive(Drop)]
 pub struct Receiving<L> {
     pub device: Sequence<u8>,
@@ -39,7 +44,7 @@ pub struct Receiving<L> {
 }
 
 impl<L> Receiving<L> {
-    /// One that has not run.
+    /// Returns a receiver that has not run.
     pub fn new(device: Sequence<u8>, intake: Intake, link: L) -> Receiving<L>
         ensures { (result.device ≡ device) × (result.intake ≡ intake) × (result.link ≡ link) }
     {
@@ -56,7 +61,8 @@ impl<L> Receiving<L> {
     }
 }
 
-/// The links of a run: the devices, the receivers in one order with them, and the end by which packets go out.
+/// The links of a run. They are its devices, their receivers in the same order, and the end that
+/// sends the packets of all of them.
 #[derive(Drop)]
 pub struct LinkParts<'a, L, S> {
     pub devices: &'a [Device],
@@ -64,18 +70,18 @@ pub struct LinkParts<'a, L, S> {
     pub sender: S,
 }
 
-/// What is left of a run.
+/// The outcome of a run of links.
 #[derive(Drop)]
 pub struct Linked<T, L, S> {
     /// The receivers, in the order in which they were given.
     pub links: Vec<Receiving<L>>,
     pub seat: Seat<T>,
     pub sender: S,
-    /// Why the forwarder ended before all was sent, if it did.
+    /// The fault for which the forwarder ended before all was sent, if it did.
     pub fault: Option<DeskFault>,
 }
 
-/// Receives until told to stop, or the link fails.
+/// Runs a receiver until a stop is requested or the link fails.
 fn run_receiver<T: Handlers, L: Inbound, S: Outbound, R: Wait, B: RunStart>(
     sweeper: &Sweeper<'_, '_, T, S, R, B>,
     receiving: Receiving<L>,
@@ -107,7 +113,8 @@ fn run_receiver<T: Handlers, L: Inbound, S: Outbound, R: Wait, B: RunStart>(
     }
 }
 
-/// The receiver of each link, one beside the rest, each in a thread of its own where one can be made.
+/// Runs the receiver of each link. All run in parallel, each in a thread of its own if the system
+/// can create one.
 fn hear_all<
     T: Handlers + Send + Drop,
     L: Inbound + Send + Drop,
@@ -150,7 +157,9 @@ enum AfterSweep {
 }
 
 impl AfterSweep {
-    /// `made`: the sweep, or none where a receiver makes one. `last`: the run is over but for what is left to send. `spent`: as many sweeps were made since as there may be.
+    /// Returns what follows a sweep. `made`: the sweep, or `None` if a receiver holds the
+    /// forwarder. `last`: the run is over, except for what is left to send. `spent`: no more sweeps
+    /// are allowed.
     fn after(made: &Option<SharedSweep>, last: bool, spent: bool) -> AfterSweep {
         match made {
             None => AfterSweep::Sleep,
@@ -164,8 +173,12 @@ impl AfterSweep {
     }
 }
 
-/// Sweeps until the run is over and nothing is left to do, or as much was done since as may be, or the history is full, which ends the receivers too. After a sweep that did nothing, or that was
-/// refused for want of memory, or while a receiver sweeps, it sleeps until it is woken, or its time is over.
+/// Sweeps until the run is over and no work is left. Returns the fault for which it ended, if any.
+/// After the run is over it makes at most `MOST_LAST` sweeps.
+///
+/// If the history is full it ends at once, and stops the receivers. It sleeps after a sweep that
+/// found no work or failed with out of memory, and while a receiver sweeps. A sweep that fails with
+/// out of memory ends it if the run is over.
 fn run_forwarder<T: Handlers, S: Outbound, R: Wait, B: RunStart>(
     sweeper: &Sweeper<'_, '_, T, S, R, B>,
     stop: &AtomicBool,
@@ -173,7 +186,7 @@ fn run_forwarder<T: Handlers, S: Outbound, R: Wait, B: RunStart>(
     let mut pause = Pause::new();
     let mut left = MOST_LAST;
     for _ in sweeper.rt.forever() {
-        // It is looked at before the sweep, so that what came last still goes out.
+        // This is read before the sweep, so that the packets that came last still go out.
         let last = sweeper.shared.are_over(stop);
         left = left.saturating_sub(u32::from(last));
         let made = sweeper.sweep();
@@ -189,7 +202,8 @@ fn run_forwarder<T: Handlers, S: Outbound, R: Wait, B: RunStart>(
     unreachable!()
 }
 
-/// The receivers beside the forwarder. Answers why the forwarder ended before all was sent, if it did.
+/// Runs the receivers in parallel with the forwarder. Returns the fault for which the forwarder
+/// ended before all was sent, if it did.
 fn run_beside<
     T: Handlers + Send + Drop,
     L: Inbound + Send + Drop,
@@ -218,7 +232,10 @@ fn run_beside<
     )
 }
 
-/// A run of links, which picks what it began with.
+/// Runs links as `run_links` does. The type `B` stands for what the run began with.
+///
+/// proof: as a type it is a constant, which the invariant of `Forwarder` can mention while threads
+/// share it.
 fn run_as<
     T: Handlers + Send + Drop,
     L: Inbound + Send + Drop,
@@ -264,9 +281,16 @@ fn run_as<
     }
 }
 
-/// Runs links at one desk: a receiver for each, which puts what comes in its feed, and one forwarder for all devices, over one seat, each in a thread of its own where one can be made. The receiver
-/// at each place counts for the device at that place. A receiver ends once `stop` is set, or where its link fails. The forwarder ends once `stop` is set, all receivers have ended, and a sweep did nothing or
-/// was refused for want of memory, or 256 were made since; or where the history is full, and then it sets `stop`. Want of memory ends neither before. The desk's feeds may be any, and so the seat's.
+/// Runs links at a desk: a receiver for each link, and one forwarder for all devices, over one
+/// seat. A receiver puts what comes over its link into its feed.
+///
+/// Each runs in a thread of its own if the system can create one. The receiver at an index uses the
+/// counts of the device at that index. A receiver ends when `stop` is set or its link fails.
+///
+/// The forwarder ends when `stop` is set, all receivers have ended, and a sweep found no work or
+/// failed with out of memory. After 256 more sweeps it ends anyway. If the history is full it ends
+/// and sets `stop`. Out of memory ends neither before. The contract holds for any feeds of the desk
+/// and of the seat.
 pub fn run_links<
     T: Handlers + Send + Drop,
     L: Inbound + Send + Drop,

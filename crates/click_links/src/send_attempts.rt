@@ -1,4 +1,4 @@
-//! What was sent, as proofs know it.
+//! The packets whose sending was attempted, as ghost state.
 
 ghost use Rattle.std.specs.Prelude.{◌≡◌, ◌++◌, ◌∷◌, []};
 ghost use Rattle.click_links.specs.Ends.{attempt};
@@ -8,10 +8,11 @@ use click_packet::StoredPacket;
 use http_server::Log;
 use std::marker::Model;
 
-/// A list of the packets that were sent, with their devices and whether each went out. It is known to proofs alone, and takes no memory.
+/// The list of packets whose sending was attempted, each with its device and whether it was sent.
+/// It is ghost state, and takes no memory.
 #[derive(Drop)]
 pub(crate) struct SendAttempts {
-    // (for each packet a list of one: its device, and whether it went out)
+    // For each packet, a list with one item: its device, and whether it was sent.
     log: Log<StoredPacket, Log<Sequence<u8>, bool>>,
 }
 
@@ -25,14 +26,14 @@ impl Model for SendAttempts {
 }
 
 impl SendAttempts {
-    /// Nothing was sent.
+    /// Returns the empty list.
     pub(crate) fn new() -> SendAttempts
         ensures { result ≡ [] }
     {
         SendAttempts { log: Log::new() }
     }
 
-    /// A packet was sent.
+    /// Appends a packet with its device, and whether it was sent.
     pub(crate) fn add(&mut self, device: &Sequence<u8>, packet: &StoredPacket, went: bool)
         ensures { self.new ≡ self.old ++ attempt device.now packet.now went ∷ [] }
     {

@@ -1,4 +1,8 @@
-//! Sweeps that the forwarder and the receivers make in turn.
+//! How the threads of a run share the forwarder: which of them sweeps, and when.
+//!
+//! The forwarder (a seat and the sending side of all links) is behind a lock that no thread waits
+//! for. The forwarder thread sweeps as long as there is work, and sleeps otherwise. A receiver
+//! wakes it after a packet, or sweeps itself if packets come far apart.
 
 ghost use Rattle.std.specs.Prelude.{◌≡◌, Some};
 ghost use Rattle.click_links.specs.Turns.{names_of};
@@ -15,22 +19,24 @@ use std::sync::atomic::{AtomicBool, Ordering};
 use std::sync::{Mutex, MutexGuard, Wait};
 use std::thread::Parker;
 
-/// The most sweeps that a receiver makes for one packet.
+/// The maximum number of sweeps that a receiver makes for one packet, after the first one.
 const MOST_SWEEPS: u32 = 4;
 
-/// So many packets of a link have to come alone, one after another, before its receiver sweeps.
+/// The number of isolated packets in a row after which a receiver sweeps itself.
 const CALM: u32 = 8;
 
-/// What the threads of a run share.
+/// The state that the threads of a run share.
 #[derive(Drop)]
 pub(crate) struct Shared<T, S: Outbound, B: RunStart> {
     forwarder: Mutex<Forwarder<T, S, B>>,
-    /// Somebody found the outfit taken, since who has it took it.
+    /// Whether a thread found the forwarder locked since it was locked. The holder reads this after
+    /// it has unlocked the forwarder, and then sweeps again.
     missed: AtomicBool,
-    /// The forwarder sleeps, or is about to, and nobody has woken it.
+    /// Whether the forwarder thread sleeps, or is about to, and was not woken since.
     asleep: AtomicBool,
-    /// All receivers have ended.
+    /// Whether all receivers have ended.
     ended: AtomicBool,
+    /// What the forwarder thread sleeps at.
     wake: Parker,
 }
 
@@ -45,7 +51,7 @@ impl<T, S: Outbound, B: RunStart> Shared<T, S, B> {
         }
     }
 
-    /// The outfit, when all threads have ended.
+    /// Returns the forwarder once all threads have ended.
     pub(crate) fn into_outfit(self) -> Forwarder<T, S, B> {
         let Shared {
             forwarder,
@@ -57,24 +63,28 @@ impl<T, S: Outbound, B: RunStart> Shared<T, S, B> {
         forwarder.into_inner()
     }
 
-    /// Whether all receivers have ended, and the run was told to stop.
+    /// Returns whether a stop was requested and all receivers have ended.
     pub(crate) fn are_over(&self, stop: &AtomicBool) -> bool {
         stop.load(Ordering::SeqCst) && self.ended.load(Ordering::SeqCst)
     }
 
-    /// All receivers have ended.
+    /// Records that all receivers have ended, and wakes the forwarder thread.
     pub(crate) fn end(&self) {
         self.ended.store(true, Ordering::SeqCst);
         self.wake();
     }
 
-    /// Wakes the forwarder. Until it sleeps again, all is left to it.
+    /// Wakes the forwarder thread. Until it sleeps again, receivers leave all work to it.
     fn wake(&self) {
         self.asleep.store(false, Ordering::SeqCst);
         self.wake.unpark();
     }
 
-    /// The outfit. Where another has it, that one is told, and looks whether it was once it has given the outfit back.
+    /// Locks the forwarder. Returns `None` if another thread holds it.
+    ///
+    /// In that case `missed` is set, and the lock is tried once more. Either the holder has not yet
+    /// read `missed`, and then does the work, or it has unlocked the forwarder before this second
+    /// attempt. So no work is left undone.
     fn take(&self) -> Option<MutexGuard<'_, Forwarder<T, S, B>>> {
         if let Some(taken) = self.try_take() {
             return Some(taken);
@@ -83,6 +93,7 @@ impl<T, S: Outbound, B: RunStart> Shared<T, S, B> {
         self.try_take()
     }
 
+    /// Locks the forwarder if it is free, and clears `missed`.
     fn try_take(&self) -> Option<MutexGuard<'_, Forwarder<T, S, B>>> {
         let taken = self.forwarder.try_lock()?;
         self.missed.store(false, Ordering::SeqCst);
@@ -90,7 +101,7 @@ impl<T, S: Outbound, B: RunStart> Shared<T, S, B> {
     }
 }
 
-/// A sweep that was made, and whether somebody found the outfit taken meanwhile.
+/// The result of a sweep, and whether another thread found the forwarder locked meanwhile.
 #[derive(Drop)]
 pub(crate) struct SharedSweep {
     pub(crate) swept: Result<SweepResult, DeskFault>,
@@ -98,7 +109,7 @@ pub(crate) struct SharedSweep {
 }
 
 impl SharedSweep {
-    /// Nothing is left to do.
+    /// Returns whether the sweep found no work, and no other thread has work to hand over.
     pub(crate) fn is_all(&self) -> bool {
         match &self.swept {
             Ok(swept) => swept.is_idle() && !self.missed,
@@ -120,18 +131,20 @@ pub(crate) struct Sweeper<'a, 'r, T, S: Outbound, R: Wait, B: RunStart> {
 }
 
 impl<'a, 'r, T: Handlers, S: Outbound, R: Wait, B: RunStart> Sweeper<'a, 'r, T, S, R, B> {
-    /// One sweep. `None` where another has the outfit, which then knows of it.
+    /// Makes one sweep. Returns `None` if another thread holds the forwarder; that thread finds
+    /// `missed` set.
     pub(crate) fn sweep(&self) -> Option<SharedSweep> {
         let swept = self.sweep_alone()?;
         Some(self.made(swept))
     }
 
-    /// Once the outfit was given back.
+    /// Adds `missed` to the result of a sweep. Called after the forwarder is unlocked.
     fn made(&self, swept: Result<SweepResult, DeskFault>) -> SharedSweep {
         let missed = self.shared.missed.load(Ordering::SeqCst);
         SharedSweep { swept, missed }
     }
 
+    /// Makes one sweep under the lock, and unlocks the forwarder.
     fn sweep_alone(&self) -> Option<Result<SweepResult, DeskFault>> {
         let mut forwarder = self.shared.take()?;
         Some(self.sweep_with(&mut *forwarder))
@@ -148,7 +161,7 @@ impl<'a, 'r, T: Handlers, S: Outbound, R: Wait, B: RunStart> Sweeper<'a, 'r, T, 
         )
     }
 
-    /// Sleeps until somebody wakes it, or its time is over.
+    /// Puts the forwarder thread to sleep until it is woken, or for as long as `pause` says.
     pub(crate) fn sleep(&self, pause: &mut Pause) {
         self.shared.asleep.store(true, Ordering::SeqCst);
         pause.sleep(self.rt, &self.shared.wake);
@@ -156,11 +169,11 @@ impl<'a, 'r, T: Handlers, S: Outbound, R: Wait, B: RunStart> Sweeper<'a, 'r, T, 
     }
 }
 
-/// A receiver, as one that sweeps.
+/// What a receiver does after each datagram: it wakes the forwarder thread, or sweeps itself.
 #[derive(Drop)]
 pub(crate) struct Helper<'s, 'a, 'r, T, S: Outbound, R: Wait, B: RunStart> {
     sweeper: &'s Sweeper<'a, 'r, T, S, R, B>,
-    /// How many packets came alone, one after another.
+    /// The number of isolated packets in a row, up to `CALM`.
     alone: u32,
 }
 
@@ -169,7 +182,8 @@ impl<'s, 'a, 'r, T: Handlers, S: Outbound, R: Wait, B: RunStart> Helper<'s, 'a, 
         Helper { sweeper, alone: 0 }
     }
 
-    /// Sweeps until nothing is left to do, or another has the outfit. Says whether that came soon.
+    /// Sweeps until no work is left or another thread holds the forwarder. Returns false if work
+    /// may be left: a sweep failed, or the maximum number of sweeps was made.
     fn sweep_all(&self) -> bool {
         let mut made = self.sweeper.sweep();
         for _ in 0..MOST_SWEEPS {
@@ -183,7 +197,13 @@ impl<'s, 'a, 'r, T: Handlers, S: Outbound, R: Wait, B: RunStart> Helper<'s, 'a, 
         false
     }
 
-    /// Where a packet was put, which came over this link: wakes the forwarder, or sweeps.
+    /// Called after each datagram of `link`. `put`: its packet is in the feed.
+    ///
+    /// A packet is isolated if the forwarder thread sleeps and no other datagram waits at the link.
+    /// After `CALM` isolated packets in a row, the receiver sweeps itself. In all other cases it
+    /// wakes the forwarder thread.
+    ///
+    /// perf: for an isolated packet only one thread has to wake up (bench/RESULTS.md, Links).
     pub(crate) fn help<L: Inbound>(&mut self, put: bool, link: &L) {
         if !put {
             return;

@@ -1,4 +1,4 @@
-//! A sweep over the devices of all links.
+//! Sweeps over the devices of all links.
 
 ghost use Rattle.std.specs.Prelude.{◌≡◌, ◌↔◌, ◌<◌, ◌++◌, ◌∷◌, [], ℕ, IsTrue, IfOk, OnErr};
 ghost use Rattle.std.specs.List.{All};
@@ -15,22 +15,22 @@ use click_router::Handlers;
 use std::alloc::Global;
 use std::sync::Wait;
 
-/// The most Rounds that a sweep makes.
+/// The maximum number of Rounds of a sweep.
 const MOST_ROUNDS: u64 = 16;
 
-/// What a sweep did.
+/// The outcome of a sweep.
 #[derive(Drop)]
 pub struct SweepResult {
-    /// The turn of each device, in the devices' order.
+    /// The turn of each device, in the order of the devices.
     pub turns: Vec<Turn>,
-    /// How many Rounds had work.
+    /// The number of Rounds that found work.
     pub rounds: u64,
-    /// It made as many Rounds as it may, and there may be more work.
+    /// Whether it made the maximum number of Rounds, so that there may be more work.
     pub more: bool,
 }
 
 impl SweepResult {
-    /// No packet entered and none was sent, and no Round had work.
+    /// Returns whether no packet entered, no packet was sent or lost, and no Round found work.
     pub fn is_idle(&self) -> bool
         ensures { IsTrue result ↔ (All IsIdleTurn self.now.turns.items × (self.now.rounds ≡ 0)) }
     {
@@ -38,7 +38,7 @@ impl SweepResult {
     }
 }
 
-/// One turn of each device, in order, each of which is listed in `turns`.
+/// Makes one turn of each device, in order, and lists the turns.
 fn forward_each<T: Handlers, S: Outbound, R: Wait>(
     rt: &R,
     alloc: Global,
@@ -62,7 +62,7 @@ fn forward_each<T: Handlers, S: Outbound, R: Wait>(
     Ok(turns)
 }
 
-/// One Round. Says whether it had work.
+/// Makes one Round. Returns whether it found work.
 fn round_once<T: Handlers, R: Wait>(
     rt: &R,
     desk: &Desk<T, &R>,
@@ -76,7 +76,8 @@ fn round_once<T: Handlers, R: Wait>(
     Ok(desk.round(rt, seat)? > 0)
 }
 
-/// Rounds until one has no work, or as many as a sweep may make. Says how many had work, and whether there may be more.
+/// Makes Rounds until one finds no work, or the maximum number of a sweep. Returns how many found
+/// work, and whether there may be more.
 fn round_on<T: Handlers, R: Wait>(
     rt: &R,
     desk: &Desk<T, &R>,
@@ -97,8 +98,11 @@ fn round_on<T: Handlers, R: Wait>(
     Ok((MOST_ROUNDS, true))
 }
 
-/// A sweep: one turn of each device, in order, as `forward` makes it, and then Rounds while they have work, at most 16. Where the desk refuses a call, or there is no memory to list the turns,
-/// it breaks off, and nothing is lost by that.
+/// Makes one sweep: one turn of each device, in order, and then at most 16 Rounds. The Rounds go on
+/// while they find work.
+///
+/// If a call fails, or there is no memory to list the turns, the sweep stops early, and no packet
+/// is lost by that.
 pub fn sweep<T: Handlers, S: Outbound, R: Wait>(
     rt: &R,
     alloc: Global,

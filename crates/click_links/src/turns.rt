@@ -1,4 +1,4 @@
-//! What a device gives goes out.
+//! Device turns: a poll of a device's feed, and then the packets that the device transmits.
 
 ghost use Rattle.std.specs.Prelude.{◌≡◌, ◌↔◌, ◌<◌, ◌+◌, ◌^◌, ◌++◌, ◌∷◌, [], List, IsTrue, IfOk, IfErr, OnErr, MatchOption};
 ghost use Rattle.click_packet.specs.Packet.{Packet as APacket};
@@ -17,18 +17,18 @@ use click_router::{Call, CompactReply, Handlers, Reply, StoredReply};
 use std::alloc::Global;
 use std::sync::Wait;
 
-/// The most packets that a turn takes from the feed.
+/// The maximum number of packets that a device turn takes from the feed.
 const MOST_POLLED: usize = 32;
 
-/// The most packets that a turn sends.
+/// The maximum number of packets that a device turn sends.
 const MOST_SENT: u64 = 256;
 
-/// How many packets were sent.
+/// The numbers of packets whose sending was attempted.
 #[derive(Clone, Copy, Debug, PartialEq, Eq)]
 pub struct Tally {
-    /// These went out.
+    /// Packets that were sent.
     pub went: u64,
-    /// These were lost.
+    /// Packets that were lost.
     pub lost: u64,
 }
 
@@ -45,18 +45,18 @@ impl Tally {
     }
 }
 
-/// What a turn did.
+/// The outcome of a device turn.
 #[derive(Clone, Copy, Debug, PartialEq, Eq)]
 pub struct Turn {
-    /// How many packets of the feed entered the router.
+    /// The number of packets of the feed that entered the router.
     pub entered: u64,
     pub tally: Tally,
-    /// It sent as many packets as it may, and the device may have more.
+    /// Whether it sent the maximum number of packets, so that the device may have more.
     pub more: bool,
 }
 
 impl Turn {
-    /// Nothing entered and nothing was sent.
+    /// Returns whether no packet entered and no packet was sent or lost.
     pub fn is_idle(&self) -> bool
         ensures { IsTrue result ↔ IsIdleTurn self.now }
     {
@@ -73,7 +73,7 @@ fn entered_of(reply: &Reply) -> u64
     }
 }
 
-/// Takes packets from the feed of the device. Says how many entered.
+/// Polls the feed of the device. Returns the number of packets that entered.
 fn poll_feed<T: Handlers, R: Wait>(
     rt: &R,
     desk: &Desk<T, &R>,
@@ -92,7 +92,7 @@ fn poll_feed<T: Handlers, R: Wait>(
     Ok(entered)
 }
 
-/// Asks the device for a packet.
+/// Makes a Transmit of the device.
 fn transmit<T: Handlers, R: Wait>(
     rt: &R,
     alloc: Global,
@@ -112,7 +112,8 @@ fn transmit<T: Handlers, R: Wait>(
     desk.record(rt, seat, Call::Transmit { device })
 }
 
-/// Sends the next packet that the device gives. Says whether it went out, or that the device gave none.
+/// Sends the next packet that the device transmits. Returns whether it was sent, or `None` if the
+/// device has none.
 fn send_one<T: Handlers, S: Outbound, R: Wait>(
     rt: &R,
     alloc: Global,
@@ -139,7 +140,8 @@ fn send_one<T: Handlers, S: Outbound, R: Wait>(
     }
 }
 
-/// Sends until the device gives none, or as many as a turn may. Says how many, and whether there may be more.
+/// Sends packets until the device has none, or the maximum number of a device turn. Returns their
+/// number, and whether there may be more.
 fn send_all<T: Handlers, S: Outbound, R: Wait>(
     rt: &R,
     alloc: Global,
@@ -164,8 +166,10 @@ fn send_all<T: Handlers, S: Outbound, R: Wait>(
     Ok((tally, true))
 }
 
-/// One turn: up to 32 packets of the device's feed enter the router, in one poll, and then packets that the device gives are sent, until it gives none, or 256. A send that fails costs its packet alone.
-/// Where the desk refuses a call, the turn breaks off, and nothing is lost by that.
+/// Makes one device turn: one poll, by which up to 32 packets enter, and then Transmits.
+///
+/// The Transmits end when the device has no packet, or after 256 packets. A send that fails loses
+/// its packet only. If a call fails, the turn stops early, and no packet is lost by that.
 pub fn forward<T: Handlers, S: Outbound, R: Wait>(
     rt: &R,
     alloc: Global,

@@ -18,14 +18,17 @@ use std::net::{Net, SocketAddr, UdpSocket};
 use std::os::fd::AsRawFd;
 use std::time::Duration;
 
-/// More bytes than a datagram has, so that none is cut.
+/// The size of the buffer for a datagram, in bytes. No datagram has as many, so none is cut.
 const ROOM: usize = 65536;
 
-/// The system's numbers for faults that pass and have no name in `ErrorKind`: want of memory (12), a fault of the protocol (71), a message that is too long (90), no such protocol there (92), want of
-/// buffers (105), and a host that is down (112).
+/// The system's error numbers of temporary faults that have no name in `ErrorKind`.
+///
+/// Those of the system are out of memory (12) and no buffer space (105). Those of the network are a
+/// protocol error (71), a message that is too long (90), a protocol that is not available (92), and
+/// a host that is down (112).
 const PASSING: [i32; 6] = [12, 71, 90, 92, 105, 112];
 
-/// A socket, where it was asked for, its peer, and the datagram that was read last.
+/// A socket, the address that it was asked for, its peer, and the datagram that was read last.
 #[derive(Drop)]
 struct DatagramSocket {
     socket: UdpSocket,
@@ -39,7 +42,7 @@ struct DatagramSocket {
     ghost named: { (known ≡ true) ↔ (from ≡ peer) },
 }
 
-/// Waits for a datagram.
+/// Blocks until a datagram comes or the socket's timeout is over.
 fn receive_datagram(datagram_socket: &mut DatagramSocket) -> io::Result<()>
     ensures { (datagram_socket.new.here ≡ datagram_socket.old.here) × (datagram_socket.new.peer ≡ datagram_socket.old.peer) }
 {
@@ -52,7 +55,7 @@ fn receive_datagram(datagram_socket: &mut DatagramSocket) -> io::Result<()>
     Ok(())
 }
 
-/// Whether a datagram waits at the socket, or a fault.
+/// Returns whether a datagram or an error waits at the socket. Never blocks.
 fn is_ready(socket: &UdpSocket) -> bool {
     let mut asked = [pollfd {
         fd: socket.as_raw_fd(),
@@ -68,7 +71,7 @@ fn heard(datagram_socket: &DatagramSocket) -> &[u8]
     &datagram_socket.buffer.as_slice()[..datagram_socket.len]
 }
 
-/// The end at which datagrams come to a socket.
+/// The receiving end of a link over UDP.
 #[derive(Drop)]
 pub struct UdpIn {
     datagram_socket: DatagramSocket,
@@ -122,7 +125,8 @@ impl Inbound for UdpIn {
     }
 }
 
-/// The link of a device as packets go out over it: a socket, where it was asked for, and its peer.
+/// The sending side of one link over UDP. It has its device, its socket, the address that the
+/// socket was asked for, and its peer.
 #[derive(Drop)]
 pub struct UdpLine {
     device: Sequence<u8>,
@@ -140,13 +144,13 @@ impl Model for UdpLine {
 }
 
 impl UdpLine {
-    /// Sends the bytes to the peer as one datagram. Says whether all of them went out.
+    /// Sends the bytes to the peer as one datagram. Returns whether all of them were sent.
     fn send(&self, bytes: &[u8]) -> bool {
         matches!(self.socket.send_to(bytes, self.peer), Ok(len) if len == bytes.len())
     }
 }
 
-/// The line of the device: the first that has it.
+/// Returns the line of the device: the first one that has it.
 fn line_of<'a>(lines: &'a [UdpLine], device: &[u8]) -> Option<&'a UdpLine>
     ensures { option_map (λ l. l.now) result ≡ line_for device.now lines.now }
 {
@@ -162,7 +166,8 @@ fn line_of<'a>(lines: &'a [UdpLine], device: &[u8]) -> Option<&'a UdpLine>
     }
 }
 
-/// The end at which packets go out over UDP, each from the socket of its device's link to that link's peer.
+/// The sending end of all links over UDP. Each packet is sent from the socket of its device's link
+/// to that link's peer.
 #[derive(Drop)]
 pub struct UdpOut {
     lines: Vec<UdpLine>,
@@ -178,7 +183,8 @@ impl Model for UdpOut {
 }
 
 impl UdpOut {
-    /// Over these lines, of which each has a device of its own; where two have one, the first of them. Nothing was sent.
+    /// Returns the sending end for these lines, with nothing sent yet. If several lines have one
+    /// device, the first of them is used.
     pub fn of(lines: Vec<UdpLine>) -> UdpOut
         ensures { result ≡ record { lines = lines.items; tried = [] } }
     {
@@ -206,8 +212,10 @@ impl Outbound for UdpOut {
     }
 }
 
-/// Whether a fault of a socket is no failure of the link: the time is over, nobody is there now or can be reached, or the system is short of room. Each of them is over once it was told,
-/// or comes after a wait.
+/// Returns whether a fault of a socket is temporary, so that the link has not failed.
+///
+/// Such faults are: the timeout is over, the peer does not listen or cannot be reached, or the
+/// system is short of memory or buffers. Each is reported once, or after a wait.
 fn is_passing(fault: &io::Error) -> bool {
     match fault.kind() {
         ErrorKind::WouldBlock
@@ -225,8 +233,12 @@ fn is_passing(fault: &io::Error) -> bool {
     }
 }
 
-/// A link of the device over a socket of the address with a peer: the end at which datagrams come, and the line by which packets go out. Neither
-/// waits longer than so many milliseconds, 1 or more, for a datagram or for room to send one. The clauses say for which address the socket was asked; no clause of the system's sockets says which one it has.
+/// Opens a link of the device over UDP. Returns its receiving end, and the line over which its
+/// packets are sent.
+///
+/// Neither blocks for longer than `millis` milliseconds, which must be at least 1. The contract
+/// says which address the socket was asked for. No contract of the system's sockets says which one
+/// it has.
 pub fn open_udp<R: Net>(
     net: &R,
     alloc: Global,

@@ -1,4 +1,4 @@
--- Facts on the fields of a header.
+-- Lemmas about the fields of a header.
 use Rattle.std.proofs.Common.{◌≡◌, ℕ, ◌+◌, ◌-◌, ◌*◌, ◌/◌, ◌%◌, ◌<◌, ◌≤◌, true, false, List, ◌∷◌, length, get_or, set, take, get_or-set_other, get_or-set_same, length-set, length-take, zero, suc, [], ◌≢◌, ◌⊎◌, ◌↔◌, ⊎_elim, Some, None, refl, sym, ◌∙◌, ap, arith, not, ◌==◌, nat_le, Contains, is_some}
 use Rattle.std.specs.Bool.{Decides}
 use Rattle.std.specs.List.{list_any}
@@ -10,7 +10,7 @@ use Rattle.click_packet.proofs.Sums.{total, sum_of_words-total, complement_sums,
 use Rattle.click_packet.specs.Checksum.{sum_of_words, ones_sum}
 use Rattle.click_packet.specs.Header.{header_len, stated_len, with_checksum_field, checksum_field, checksum, header_good, version, total_len, header, source, with_ttl, ttl, IsGoodHeader}
 
--- the sum moves by what the checksum field does
+-- the sum changes by as much as the checksum field does
 total-field : (xs : List ℕ) (w : ℕ) → 12 ≤ length xs → total (with_checksum_field xs w) + checksum_field xs ≡ total xs + w
 total-field (a ∷ b ∷ c ∷ d ∷ e ∷ f ∷ g ∷ h ∷ i ∷ j ∷ k ∷ l ∷ rest) w long = omega arith
 total-field xs w long = absurd (omega arith)
@@ -32,7 +32,7 @@ pub header_len-past : (bytes : List ℕ) → length bytes < stated_len bytes →
 unfolding header_len
 header_len-past bytes low = grind (arith, nat_tests)
 
--- a header whose fields pass is good unless it comes from a refused address
+-- a header whose fields pass the tests is valid, unless its source address is refused
 pub header_good-fields : (bytes : List ℕ) (refused : List (List ℕ)) → header_len bytes ≡ Some (stated_len bytes) → version bytes ≡ 4 →
     stated_len bytes ≤ total_len bytes → total_len bytes ≤ length bytes → ones_sum (sum_of_words (header bytes)) ≡ 65535 →
     header_good bytes refused ≡ not (list_any (λ address. bytes_eq address (source bytes)) refused)
@@ -44,7 +44,7 @@ header_good-fields bytes refused e v t l s =
     let n4 : (ones_sum (sum_of_words (header bytes)) == 65535) ≡ true = (Decides-eqb (ones_sum (sum_of_words (header bytes))) 65535).1 s in
     simp (e, n1, n2, n3, n4)
 
--- nobody is refused where the list is empty
+-- an empty list refuses no address
 pub nobody_refused : (bytes : List ℕ) (refused : List (List ℕ)) → refused ≡ [] → not (list_any (λ address. bytes_eq address (source bytes)) refused) ≡ true
 nobody_refused bytes refused none = rw none refl
 
@@ -55,13 +55,13 @@ decides_header : (bytes : List ℕ) → Decides (is_some (header_len bytes)) ((2
 unfolding header_len
 decides_header bytes = (λ e. grind (arith, nat_tests), λ h. grind (arith, nat_tests))
 
--- whether a list is one of a list of lists
+-- whether a list is among these lists
 decides_contains : (xss : List (List ℕ)) (xs : List ℕ) → Decides (list_any (λ ys. bytes_eq ys xs) xss) (Contains xss xs)
 decides_contains xss xs =
     Decides-contains xss xs _
     (Decides-by_or (λ ys. bytes_eq ys xs) (λ ys. ys ≡ xs) (list_any (λ ys. bytes_eq ys xs)) (λ ys. bytes_decides ys xs) refl (λ _ _. refl) xss)
 
--- the test is the record
+-- the test decides whether the header is valid
 pub header_good-decides : (bytes : List ℕ) (refused : List (List ℕ)) → Decides (header_good bytes refused) (IsGoodHeader bytes refused)
 unfolding header_good
 header_good-decides bytes refused =
@@ -83,11 +83,11 @@ header_good-false bytes refused h =
       | false ↦ λ _. refl
     ] refl
 
--- what a header length says
+-- if there is no header length, the stated length is out of range
 pub header_len-none : (bytes : List ℕ) → None ≡ header_len bytes → 20 ≤ stated_len bytes → stated_len bytes ≤ length bytes → ⊥
 header_len-none bytes e low high = let f = header_len-some bytes low high in cc
 
--- a byte after the first leaves the header's length
+-- writing a byte after the first leaves the length of the header unchanged
 stated_len-set : (bytes : List ℕ) (k b : ℕ) → 0 < k → stated_len (set bytes k b) ≡ stated_len bytes
 stated_len-set bytes k b h = ap (λ n. n % 16 * 4) (get_or-set_other bytes k 0 b 0 (omega arith))
 
@@ -103,7 +103,7 @@ take-set_in (suc n) [] i b = refl
 take-set_in (suc n) (x ∷ xs) zero b = refl
 take-set_in (suc n) (x ∷ xs) (suc i) b = ap (λ ys. x ∷ ys) (take-set_in n xs i b)
 
--- the checksum in its place makes a header sum to ffff
+-- with its checksum in the field, a header sums to ffff
 sum_of_words-checksum : (xs : List ℕ) → 12 ≤ length xs → ones_sum (sum_of_words (with_checksum_field xs (checksum xs))) ≡ 65535
 unfolding checksum
 sum_of_words-checksum xs long =
@@ -113,7 +113,7 @@ sum_of_words-checksum xs long =
     omega (arith, sum_of_words-field xs 0 long, sum_of_words-field xs word long) in
     ap ones_sum e ∙ complement_sums bare word refl
 
--- and no other word does, but that ffff may stand for 0
+-- no other checksum field makes it sum to ffff, except that ffff may stand for 0
 pub sums_by_checksum : (xs : List ℕ) → 12 ≤ length xs → checksum_field xs ≤ 65535 →
     (ones_sum (sum_of_words xs) ≡ 65535) ↔ ((checksum_field xs ≡ checksum xs) ⊎ ((checksum xs ≡ 0) × (checksum_field xs ≡ 65535)))
 unfolding checksum
@@ -129,7 +129,7 @@ pub length-with_ttl : (bytes : List ℕ) (ttl : ℕ) → length (with_ttl bytes 
 unfolding with_ttl
 length-with_ttl bytes ttl = simp length-set
 
--- three writes and a byte elsewhere
+-- three writes leave every other byte unchanged
 get_or-writes : (bytes : List ℕ) (n a b k : ℕ) → k ≢ 8 → k ≢ 10 → k ≢ 11 → get_or (set (set (set bytes 8 n) 10 a) 11 b) k 0 ≡ get_or bytes k 0
 get_or-writes bytes n a b k e f g =
     let aged = set bytes 8 n in

@@ -1,10 +1,10 @@
--- Facts on the bytes of a packet where they lie.
+-- Lemmas about the bytes of a packet in its array.
 use Rattle.std.proofs.Common.{◌≡◌, ℕ, ◌+◌, ◌-◌, ◌≤◌, min, List, ◌++◌, length, take, drop, sym, ◌∙◌, ap, arith, length-drop, length-take-le, drop-drop}
 use Rattle.std.proofs.Math.Seq.{take-append-add, take-length}
 use Rattle.std.proofs.Math.ListN.{drop_of_length-le}
 use Rattle.std.proofs.lemmas.List.{append-nil, drop_min, drop-take}
 
--- the bytes that are left after the first ones
+-- the bytes that are left after the first ones are stripped
 pub stripped : (xs : List ℕ) (start len count : ℕ) → start + len ≤ length xs →
     take (len - min count len) (drop (start + min count len) xs) ≡ drop count (take len (drop start xs))
 stripped xs start len count h =
@@ -19,13 +19,13 @@ stripped xs start len count h =
     ∙ ap (λ m. drop (min count m) (take len ys)) (sym whole)
     ∙ drop_min count (take len ys)
 
--- the bytes with others before them
+-- the bytes with a front before them
 pub prepended : (front rest bytes : List ℕ) (len : ℕ) → bytes ≡ front ++ rest → take (len + length front) bytes ≡ front ++ take len rest
 prepended front rest bytes len e =
     let n : len + length front ≡ length front + len = omega arith in
     rw (e, n) (take-append-add front rest len)
 
--- a list that is written back whole
+-- a list that is overwritten completely
 pub refilled : (xs ys : List ℕ) → length ys ≡ length xs → take (length xs) (ys ++ drop (length ys) xs) ≡ ys
 refilled xs ys e =
     ap (λ zs. take (length xs) (ys ++ zs)) (drop_of_length-le xs (omega (arith, e)))
@@ -33,11 +33,11 @@ refilled xs ys e =
     ∙ ap (λ n. take n ys) (sym e)
     ∙ take-length ys
 
--- how many bytes there are
+-- the number of bytes
 pub held : (xs : List ℕ) (start len : ℕ) → start + len ≤ length xs → length (take len (drop start xs)) ≡ len
 held xs start len h = length-take-le len (drop start xs) (omega (arith, length-drop start xs))
 
--- the bytes once a front was written before them
+-- the bytes after a front is written before them
 pub fronted : (items written front : List ℕ) (start len count : ℕ) → length front ≡ count → count ≤ start → length written ≡ length items →
     drop (start - count) written ≡ front ++ drop (start - count + count) items →
     take (len + count) (drop (start - count) (take (length items) (written ++ drop (length written) items))) ≡ front ++ take len (drop start items)

@@ -1,4 +1,4 @@
--- Facts on a header's bytes as 32-bit words.
+-- Lemmas about the bytes of a header as 32-bit words.
 use Rattle.std.proofs.Common.{◌≡◌, ℕ, ◌+◌, ◌-◌, ◌*◌, ◌/◌, ◌%◌, ◌<◌, ◌≤◌, ◌↔◌, List, [], ◌∷◌, length, get_or, set, drop, length-set, refl, arith}
 use Rattle.std.proofs.lemmas.List.{drop_more}
 use Rattle.std.specs.Int.{w16, to_le_bytes}
@@ -7,18 +7,19 @@ use Rattle.click_packet.specs.Checksum.{sum_of_words, ones_sum}
 use Rattle.click_packet.specs.Header.{with_checksum_field, checksum}
 use Rattle.click_packet.specs.kept.Quads.{quads}
 
--- the sum of the words' first bytes
+-- the sum of the first bytes of the 32-bit words
 abbrev firsts : List ℕ → ℕ
 firsts (a ∷ b ∷ c ∷ d ∷ rest) = a + firsts rest
 firsts xs = 0
 
--- the sum of their last bytes
+-- the sum of the last bytes of the 32-bit words
 abbrev lasts : List ℕ → ℕ
 lasts (a ∷ b ∷ c ∷ d ∷ rest) = d + lasts rest
 lasts xs = 0
 
--- a word of 32 bits with its low byte first counts the first byte of its first half once and not 65,536 times, and the
--- last byte of its second half 16,777,216 times and not 256 times; the others 256 times what they count in their half
+-- The sum over 32-bit words with the low byte first, compared with 256 times the sum over 16-bit
+-- words with the high byte first. The first byte of each 32-bit word has the weight 1 and not
+-- 65,536. The last one has 16,777,216 and not 256. The other two bytes agree.
 quads-total : (xs : List ℕ) → length xs % 4 ≡ 0 → quads xs + 65535 * firsts xs ≡ 256 * total xs + 16776960 * lasts xs
 quads-total [] h = refl
 quads-total (a ∷ []) h = absurd (omega arith)
@@ -33,7 +34,7 @@ lasts-total (a ∷ b ∷ []) = omega arith
 lasts-total (a ∷ b ∷ c ∷ []) = omega arith
 lasts-total (a ∷ b ∷ c ∷ d ∷ rest) = let e = lasts-total rest in omega (arith, e)
 
--- the next word of a list from a place on
+-- the 32-bit word at index i, and the sum of those after it
 pub quads-drop : (xs : List ℕ) (i : ℕ) → 4 * i + 3 < length xs →
     quads (drop (4 * i) xs)
     ≡ get_or xs (4 * i) 0 + get_or xs (4 * i + 1) 0 * 256 + get_or xs (4 * i + 2) 0 * 65536 + get_or xs (4 * i + 3) 0 * 16777216 + quads (drop (4 * (i + 1)) xs)
@@ -50,39 +51,39 @@ quads-drop xs i h =
     let o : 4 * i + 3 + 1 ≡ 4 * (i + 1) = omega arith in
     rw (e, f, m, g, n, j, o) refl
 
--- the word at a place
+-- the 32-bit word at an offset
 abbrev pub quad_at : List ℕ → ℕ → ℕ
 quad_at xs i = get_or xs i 0 + get_or xs (i + 1) 0 * 256 + get_or xs (i + 2) 0 * 65536 + get_or xs (i + 3) 0 * 16777216
 
--- the words of a header without options, and those of its options
+-- the words of the first 20 bytes of a header, and those of its options
 pub quads-header : (xs : List ℕ) → 20 ≤ length xs →
     quads xs ≡ quad_at xs 0 + quad_at xs 4 + quad_at xs 8 + quad_at xs 12 + quad_at xs 16 + quads (drop 20 xs)
 quads-header (a ∷ b ∷ c ∷ d ∷ e ∷ f ∷ g ∷ h ∷ i ∷ j ∷ k ∷ l ∷ m ∷ n ∷ o ∷ p ∷ q ∷ r ∷ s ∷ t ∷ rest) long = omega arith
 quads-header xs long = absurd (omega arith)
 
--- the same with another time to live and the checksum zero
+-- the words of a header with another time to live and with checksum zero
 pub quads-bare : (xs : List ℕ) (ttl : ℕ) → 20 ≤ length xs →
     quads (with_checksum_field (set xs 8 ttl) 0)
     ≡ quad_at xs 0 + quad_at xs 4 + (ttl + get_or xs 9 0 * 256) + quad_at xs 12 + quad_at xs 16 + quads (drop 20 xs)
 quads-bare (a ∷ b ∷ c ∷ d ∷ e ∷ f ∷ g ∷ h ∷ i ∷ j ∷ k ∷ l ∷ m ∷ n ∷ o ∷ p ∷ q ∷ r ∷ s ∷ t ∷ rest) ttl long = omega arith
 quads-bare xs ttl long = absurd (omega arith)
 
--- a number and 256 times another that are congruent modulo 65,535 are divided by it together
+-- if n is congruent to 256 times t modulo 65,535, then 65,535 divides both or neither
 divides-turned : (n t f l : ℕ) → n + 65535 * f ≡ 256 * t + 16776960 * l → (n % 65535 ≡ 0) ↔ (t % 65535 ≡ 0)
 divides-turned n t f l e = (λ h. omega arith, λ h. omega arith)
 
--- the sum is ffff where 65,535 divides a plain sum that is not 0
+-- the ones' complement sum is ffff exactly if 65,535 divides the plain sum, which is not 0
 divides : (n : ℕ) → 0 < n → (n % 65535 ≡ 0) ↔ (ones_sum n ≡ 65535)
 divides n h =
     let e = ones_sum-positive n h in
     (λ f. omega (arith, e), λ f. omega (arith, e))
 
--- where a header's words do not sum to 0, its halves do not
+-- if the 32-bit words do not sum to 0, the 16-bit words do not
 total-positive : (xs : List ℕ) → length xs % 4 ≡ 0 → 0 < quads xs → 0 < sum_of_words xs
 total-positive xs whole some =
     omega (arith, quads-total xs whole, lasts-total xs, sum_of_words-total xs)
 
--- the test of the words of 32 bits is that of the words of 16
+-- the test on 32-bit words agrees with the test on 16-bit words
 pub sums_by_quads : (xs : List ℕ) (n : ℕ) → length xs % 4 ≡ 0 → 0 < n → n ≡ quads xs → (n % 65535 ≡ 0) ↔ (ones_sum (sum_of_words xs) ≡ 65535)
 sums_by_quads xs n whole some e =
     let t = sum_of_words xs in
@@ -90,7 +91,7 @@ sums_by_quads xs n whole some e =
     let test = divides t (total-positive xs whole (omega (arith, e))) in
     (λ h. test.0 (turned.0 h), λ h. turned.1 (test.1 h))
 
--- the complement of the sum of words with their low byte first is that of the others with its bytes exchanged
+-- the checksum from 32-bit words is the checksum from 16-bit words with its bytes exchanged
 exchanged : (n t f l v w : ℕ) → 0 < n → 0 < t → n + 65535 * f ≡ 256 * t + 16776960 * l → v ≡ 65534 - (n - 1) % 65535 → w ≡ 65534 - (t - 1) % 65535 →
     v ≡ w % 256 * 256 + w / 256
 exchanged n t f l v w some positive e g h = omega arith
@@ -101,7 +102,7 @@ two_bytes v w short e =
     let low : v / 256 % 256 ≡ w % 256 = omega arith in
     rw (high, low) refl
 
--- the checksum's bytes by the words of 32 bits
+-- the bytes of the checksum, computed from the 32-bit words
 pub checksum_by_quads : (xs : List ℕ) (ttl n : ℕ) → length xs % 4 ≡ 0 → 0 < n → n ≡ quads (with_checksum_field (set xs 8 ttl) 0) →
     to_le_bytes w16 (65534 - (n - 1) % 65535) ≡ checksum (set xs 8 ttl) / 256 ∷ checksum (set xs 8 ttl) % 256 ∷ []
 unfolding checksum

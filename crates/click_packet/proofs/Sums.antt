@@ -1,4 +1,4 @@
--- Facts on ones' complement sums.
+-- Lemmas about ones' complement sums.
 use Rattle.std.proofs.Common.{◌≡◌, ℕ, zero, suc, ◌+◌, ◌-◌, ◌*◌, ◌/◌, ◌%◌, ◌<◌, ◌≤◌, List, [], ◌∷◌, get_or, fold, ◌⊎◌, inl, inr, ⊎_elim, refl, sym, ◌∙◌, ap, add-zero, zero-add, arith}
 use Rattle.std.proofs.lemmas.Bool.Decides.{nat_tests}
 use Rattle.std.proofs.lemmas.Bool.{cases_lt, cases_eq}
@@ -16,14 +16,14 @@ ones_sum-positive (suc n) h =
     let e : suc n - 1 ≡ n = omega arith in
     rw e refl
 
--- the word from 1 to 65,535 that is congruent to a number
+-- the ones' complement sum is the word from 1 to 65,535 that is congruent to the number
 pub ones_sum_at : (n s k : ℕ) → 0 < s → s ≤ 65535 → n ≡ 65535 * k + s → ones_sum n ≡ s
 ones_sum_at n s k low high e =
     let positive : 0 < n = omega arith in
     let same : (n - 1) % 65535 + 1 ≡ s = omega arith in
     ones_sum-positive n positive ∙ same
 
--- the sum of the words, the first word first
+-- the sum of the words, from the first word on
 abbrev pub total : List ℕ → ℕ
 total [] = 0
 total (high ∷ []) = high * 256
@@ -35,7 +35,7 @@ sum_of_words-total (high ∷ []) = omega arith
 sum_of_words-total (high ∷ low ∷ rest) =
     sum_by-cons (λ x. x) (high * 256 + low) (words rest) ∙ ap (λ n. high * 256 + low + n) (sum_of_words-total rest)
 
--- what a number's ones' complement sum says of it
+-- the ones' complement sum of a positive number: congruent to it, and from 1 to 65,535
 pub ones_sum-is : (n : ℕ) → 0 < n → (n ≡ 65535 * ((n - 1) / 65535) + ones_sum n) × (0 < ones_sum n) × (ones_sum n ≤ 65535)
 ones_sum-is n h =
     let e = ones_sum-positive n h in
@@ -62,7 +62,7 @@ ones_sum-add_positive n w h short (inr past) =
     ones_sum_at (n + w) (ones_sum n + w - 65535) ((n - 1) / 65535 + 1) (omega arith) (omega (arith, i.2)) (omega (arith, i.0))
     ∙ sym (ones_add-carry (ones_sum n) w past)
 
--- one more word is added as ones' complement numbers are
+-- adding a word to the plain sum adds it to the ones' complement sum
 pub ones_sum-add : (n w : ℕ) → w ≤ 65535 → ones_sum (n + w) ≡ ones_add (ones_sum n) w
 ones_sum-add zero w short =
     let e : zero + w ≡ w = omega arith in
@@ -85,7 +85,7 @@ fold_words n (high ∷ low ∷ rest) bytes =
     ap ones_sum e ∙ fold_words (n + w) rest (λ i. bytes (suc (suc i)))
     ∙ ap (λ m. fold ones_add m (words rest)) (ones_sum-add n w (omega arith))
 
--- the words added one after the other as ones' complement numbers
+-- the ones' complement sum is the words added one after another
 pub ones_sum-fold : (xs : List ℕ) → ((i : ℕ) → get_or xs i 0 < 256) → ones_sum (sum_of_words xs) ≡ fold ones_add 0 (words xs)
 ones_sum-fold xs bytes =
     sym (ap ones_sum (zero-add (sum_of_words xs))) ∙ fold_words 0 xs bytes ∙ ap (λ m. fold ones_add m (words xs)) ones_sum-zero
@@ -96,7 +96,7 @@ ones_sum-IsOnesSum (suc n) =
     let i = ones_sum-is (suc n) (omega arith) in
     record { congruent = omega (arith, i.0); word = i.2; zero_only = (λ e. absurd (omega (arith, i.1)), λ e. absurd (omega arith)) }
 
--- no other word stands for the sum
+-- no other word satisfies the definition
 pub IsOnesSum-once : (n s : ℕ) → IsOnesSum n s → s ≡ ones_sum n
 IsOnesSum-once zero s h = h.zero_only.1 refl ∙ sym ones_sum-zero
 IsOnesSum-once (suc n) s h =
@@ -104,7 +104,7 @@ IsOnesSum-once (suc n) s h =
     let positive : 0 < s = elim s as (λ m. (m ≡ 0 → suc n ≡ 0) → 0 < m) [ zero ↦ λ e. absurd (omega (arith, e refl)) | suc m ↦ λ e. omega arith ] h.zero_only.0 in
     omega (arith, i.0, i.1, i.2, h.congruent, h.word)
 
--- with a word added, a sum is ffff where the word is its complement, or where both are ffff
+-- with a word added, the sum is ffff if the word is its complement, or if both are ffff
 pub complement_sums : (n w : ℕ) → w ≡ 65535 - ones_sum n → ones_sum (n + w) ≡ 65535
 complement_sums zero w e = ones_sum_at (zero + w) 65535 0 (omega arith) (omega arith) (omega (arith, e, ones_sum-zero))
 complement_sums (suc n) w e =

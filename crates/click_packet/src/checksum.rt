@@ -1,12 +1,14 @@
-//! The checksum of an internet header (RFC 791, section 3.1). Words of 32 bits are summed, half as many as of 16, and with
-//! their low byte first, as the machine reads them: 65,536 leaves 1 modulo 65,535, so their ones' complement sum is that
-//! of the 16-bit words with its two bytes exchanged (RFC 1071, section 2).
+//! The checksum of an internet header (RFC 791, section 3.1).
+//!
+//! perf: the sums are over 32-bit words, half as many as of 16 bits, with the low byte first, as
+//! the machine loads them. Because 65,536 is 1 modulo 65,535, their ones' complement sum is that of
+//! the 16-bit words with its two bytes exchanged (RFC 1071, section 2).
 ghost use Rattle.std.specs.Prelude.{◌≡◌, ◌+◌, ◌-◌, ◌*◌, ◌/◌, ◌%◌, ◌<◌, ◌≤◌, ◌↔◌, [], ◌∷◌, length, drop, slice_index, slice_set, IsTrue};
 ghost use Rattle.click_packet.specs.Checksum.{sum_of_words, ones_sum};
 ghost use Rattle.click_packet.specs.Header.{checksum};
 ghost use Rattle.click_packet.specs.kept.Quads.{quads};
 
-/// The 32-bit word from a byte on, the low byte first.
+/// Returns the 32-bit word at offset `at`, with the low byte first.
 fn quad(header: &[u8], at: usize) -> u64
     requires { at + 4 ≤ length header.now }
     ensures value { result ≡ slice_index header.now at + slice_index header.now (at + 1) * 256
@@ -17,7 +19,7 @@ fn quad(header: &[u8], at: usize) -> u64
     u64::from(u32::from_le_bytes(word))
 }
 
-/// The sum of the 32-bit words of a header's options, which follow its first 20 bytes.
+/// Returns the sum of the 32-bit words of a header's options, which follow its first 20 bytes.
 #[tactic(auto, using(crate::proofs::Quads::quad_steps))]
 fn sum_of_options(header: &[u8]) -> u64
     requires whole { length header.now % 4 ≡ 0 }
@@ -33,7 +35,9 @@ fn sum_of_options(header: &[u8]) -> u64
     sum
 }
 
-/// Whether the ones' complement sum of a header's 16-bit words is ffff, as it is where its checksum is right.
+/// Returns whether the ones' complement sum of a header's 16-bit words is ffff.
+///
+/// It is ffff if the checksum is right.
 pub fn sums_to_ones(header: &[u8]) -> bool
     requires whole { length header.now % 4 ≡ 0 }
     requires long { 20 ≤ length header.now }
@@ -50,8 +54,9 @@ pub fn sums_to_ones(header: &[u8]) -> bool
     total % 65535 == 0
 }
 
-/// The two bytes of the checksum that belongs into a header with this time to live, whatever stands in its bytes 8, 10 and
-/// 11 now.
+/// Returns the two checksum bytes of the header with this time to live.
+///
+/// The values in bytes 8, 10 and 11 of `header` do not matter.
 pub fn checksum_at(header: &[u8], ttl: u8) -> [u8; 2]
     requires whole { length header.now % 4 ≡ 0 }
     requires long { 20 ≤ length header.now }
@@ -59,7 +64,7 @@ pub fn checksum_at(header: &[u8], ttl: u8) -> [u8; 2]
     requires begun { 0 < slice_index header.now 0 }
     ensures { result ≡ checksum (slice_set header.now 8 ttl) / 256 ∷ checksum (slice_set header.now 8 ttl) % 256 ∷ [] }
 {
-    // The third word ends with the checksum itself, which counts as zero.
+    // The second half of the third word is the checksum field itself, which counts as zero.
     let third = u64::from(ttl) + u64::from(header[9]) * 256;
     let total = sum_of_options(header)
         + quad(header, 0)

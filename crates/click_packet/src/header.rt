@@ -6,7 +6,10 @@ ghost use Rattle.click_packet.specs.Header.{source, stated_len, header_len, head
 
 use crate::checksum::{checksum_at, sums_to_ones};
 
-/// The header's length in bytes: the lower half of the first byte times four, if it is from 20 to the number of bytes.
+/// Returns the length of the header in bytes, or `None` if there is no header.
+///
+/// The length is four times the lower half of the first byte, and must be from 20 to the number of
+/// bytes.
 #[tactic(auto, using(crate::proofs::Headers::header_lens))]
 pub fn header_len(bytes: &[u8]) -> Option<usize>
     ensures value { result ≡ header_len bytes.now }
@@ -24,8 +27,12 @@ pub fn header_len(bytes: &[u8]) -> Option<usize>
     }
 }
 
-/// Whether a whole header of version 4 is there, whose total length lies between its own and the number of bytes, whose
-/// words sum to ffff, and whose source address is none of `refused`. Most headers have no options, and mostly nobody is refused.
+/// Returns whether the bytes begin with a valid header whose source address is not in `refused`.
+///
+/// The header must be complete, of version 4, and with words that sum to ffff. Its total length
+/// must lie between its own length and the number of bytes.
+///
+/// perf: the fast path is for a header without options and an empty `refused`.
 #[inline(always)]
 pub fn is_good(bytes: &[u8], refused: &[[u8; 4]]) -> bool
     ensures { result ≡ header_good bytes.now refused.now }
@@ -43,7 +50,9 @@ pub fn is_good(bytes: &[u8], refused: &[[u8; 4]]) -> bool
     sums_to_ones(&bytes[..20])
 }
 
-/// The same for a header of any length. It is a call of its own, so that what only a rare header needs takes no registers from the others.
+/// Does what `is_good` does, for a header of any length.
+///
+/// perf: out of line, so that rare headers cost the others no registers.
 #[cold]
 #[inline(never)]
 fn is_good_of_any_length(bytes: &[u8], refused: &[[u8; 4]]) -> bool
@@ -55,7 +64,7 @@ fn is_good_of_any_length(bytes: &[u8], refused: &[[u8; 4]]) -> bool
     let first = bytes[0];
     let len = usize::from(first % 16) * 4;
     let total = usize::from(bytes[2]) * 256 + usize::from(bytes[3]);
-    // The first byte tells version 4 and a length of at least 20 bytes.
+    // The first byte states version 4 and a length of at least 20 bytes.
     if first < 0x45 || 0x4f < first || total < len || bytes.len() < total {
         return false;
     }
@@ -65,7 +74,7 @@ fn is_good_of_any_length(bytes: &[u8], refused: &[[u8; 4]]) -> bool
     is_welcome(bytes, refused)
 }
 
-/// Whether the source address of a header is none of `refused`.
+/// Returns whether the source address of a header is not in `refused`.
 fn is_welcome(bytes: &[u8], refused: &[[u8; 4]]) -> bool
     requires { 16 ≤ length bytes.now }
     ensures { result ≡ not (list_any (λ address. bytes_eq address (source bytes.now)) refused.now) }
@@ -74,7 +83,7 @@ fn is_welcome(bytes: &[u8], refused: &[[u8; 4]]) -> bool
     !refused.contains(&source)
 }
 
-/// Sets byte 8 and the checksum that goes with it.
+/// Sets the time to live of a header with this length, and its checksum.
 fn write_ttl(bytes: &mut [u8], len: usize, ttl: u8)
     requires stated { len ≡ stated_len bytes.old }
     requires long { 20 ≤ len }
@@ -87,7 +96,8 @@ fn write_ttl(bytes: &mut [u8], len: usize, ttl: u8)
     bytes[11] = low;
 }
 
-/// Sets byte 8 and the checksum that goes with it, where there is a header, and says whether there is.
+/// Sets the time to live and the checksum. Returns false, and changes nothing, if there is no
+/// header.
 pub fn set_ttl(bytes: &mut [u8], ttl: u8) -> bool
     ensures { MatchOption (header_len bytes.old)
         ((result ≡ false) × (bytes.new ≡ bytes.old))
@@ -100,7 +110,9 @@ pub fn set_ttl(bytes: &mut [u8], ttl: u8) -> bool
     true
 }
 
-/// Makes byte 8 of a header less by one, with the checksum that goes with it, where it is above 1, and says whether that is so.
+/// Decrements the time to live of a header with this length, and sets its checksum.
+///
+/// Returns false, and changes nothing, if it is 0 or 1.
 #[inline(always)]
 fn count_down_in(bytes: &mut [u8], len: usize) -> bool
     requires stated { len ≡ stated_len bytes.old }
@@ -117,8 +129,11 @@ fn count_down_in(bytes: &mut [u8], len: usize) -> bool
     true
 }
 
-/// Makes byte 8 less by one, with the checksum that goes with it, where there is a header and that byte is above 1, and
-/// says whether that is so. Most headers have no options.
+/// Decrements the time to live, and sets the checksum.
+///
+/// Returns false, and changes nothing, if it is 0 or 1 or there is no header.
+///
+/// perf: the fast path is for a header without options.
 #[tactic(auto, using(crate::proofs::Headers::header_lens))]
 #[inline(always)]
 pub fn count_down(bytes: &mut [u8]) -> bool
@@ -136,7 +151,7 @@ pub fn count_down(bytes: &mut [u8]) -> bool
     count_down_in(bytes, 20)
 }
 
-/// The same for a header of any length.
+/// Does what `count_down` does, for a header of any length.
 #[cold]
 #[inline(never)]
 fn count_down_at_any_length(bytes: &mut [u8]) -> bool

@@ -1,4 +1,4 @@
-//! A packet at rest.
+//! Packets in memory of their own length.
 
 ghost use Rattle.std.specs.Prelude.{◌≡◌, ◌≤◌, [], length, IfOk, vec_capacity};
 ghost use Rattle.click_packet.specs.Packet.{longest_packet};
@@ -7,7 +7,9 @@ use crate::packet::{LIMIT, Marks, Packet};
 use std::alloc::{AllocError, Global};
 use std::marker::Model;
 
-/// A packet that is kept as it is: just its bytes, with its paint and its destination. It takes memory by its length.
+/// A packet that is stored: its bytes and its annotations.
+///
+/// It takes as much memory as it has bytes, while a `Packet` always has room for 1,600.
 #[derive(Drop)]
 pub struct StoredPacket {
     bytes: Vec<u8>,
@@ -26,7 +28,7 @@ impl Model for StoredPacket {
 }
 
 impl StoredPacket {
-    /// What is kept of a packet.
+    /// Returns a stored packet that equals `packet`, or fails with out of memory.
     pub fn of(alloc: Global, packet: &Packet) -> Result<StoredPacket, AllocError>
         ensures { IfOk result (λ stored. stored ≡ packet.now) }
     {
@@ -36,7 +38,7 @@ impl StoredPacket {
         })
     }
 
-    /// An equal one.
+    /// Returns an equal stored packet, or fails with out of memory.
     pub fn copy(&self, alloc: Global) -> Result<StoredPacket, AllocError>
         ensures { IfOk result (λ copy. copy ≡ self.now) }
     {
@@ -46,7 +48,7 @@ impl StoredPacket {
         })
     }
 
-    /// The bytes, at most 1,600.
+    /// Returns the bytes, at most 1,600.
     pub fn bytes(&self) -> &[u8]
         ensures value { result.now ≡ self.now.bytes }
         ensures fits { length result.now ≤ longest_packet }
@@ -54,19 +56,21 @@ impl StoredPacket {
         self.bytes.as_slice()
     }
 
+    /// Returns the paint.
     pub fn paint(&self) -> u8
         ensures { result ≡ self.now.paint }
     {
         self.marks.paint
     }
 
+    /// Returns the destination.
     pub fn destination(&self) -> [u8; 4]
         ensures { result ≡ self.now.destination }
     {
         self.marks.destination
     }
 
-    /// Makes the packet equal to this one. It takes no memory.
+    /// Makes `packet` equal to this one. Does not allocate.
     pub fn write_to(&self, packet: &mut Packet)
         ensures { packet.new ≡ self.now }
     {
@@ -77,7 +81,7 @@ impl StoredPacket {
     }
 }
 
-/// Memory for one packet of any length that is still to be kept.
+/// Memory for a packet of any length that is to be stored later.
 #[derive(Drop)]
 pub struct PacketRoom {
     bytes: Vec<u8>,
@@ -86,14 +90,14 @@ pub struct PacketRoom {
 }
 
 impl PacketRoom {
-    /// Room for 1,600 bytes.
+    /// Allocates room for 1,600 bytes, or fails with out of memory.
     pub fn new(alloc: Global) -> Result<PacketRoom, AllocError> {
         Ok(PacketRoom {
             bytes: Vec::with_capacity(alloc, LIMIT)?,
         })
     }
 
-    /// These bytes. The memory that they do not need is given back.
+    /// Fills the room with these bytes, and frees the memory that they do not need.
     fn filled(self, given: &[u8]) -> Vec<u8>
         requires { length given.now ≤ longest_packet }
         ensures { result.items ≡ given.now }
@@ -107,7 +111,9 @@ impl PacketRoom {
         bytes
     }
 
-    /// Keeps the packet, and gives back the memory that it does not need. It takes none.
+    /// Stores `packet` in this room, and frees the memory that it does not need.
+    ///
+    /// Never fails.
     pub fn keep(self, packet: &Packet) -> StoredPacket
         ensures { result ≡ packet.now }
     {
@@ -117,7 +123,9 @@ impl PacketRoom {
         }
     }
 
-    /// Keeps another of the packet, and gives back the memory that it does not need. It takes none.
+    /// Stores a copy of `packet` in this room, and frees the memory that it does not need.
+    ///
+    /// Never fails.
     pub fn copy_of(self, packet: &StoredPacket) -> StoredPacket
         ensures { result ≡ packet.now }
     {

@@ -1,4 +1,4 @@
--- Lemmas on the calls of commands, and on asking for them.
+-- Lemmas on the calls of commands, and on making them.
 use Rattle.std.proofs.Common.{◌≡◌, ℕ, Bool, true, false, List, [], ◌∷◌, ◌++◌, length, map, Option, None, Some, Result, refl, sym, ap, subst, ◌∙◌, length-append, arith}
 use Rattle.click_router.specs.declared.call.Call.{Call}
 use Rattle.click_router.specs.declared.call.Reply.{Reply}
@@ -15,7 +15,7 @@ pub reading_calls : (readonly : Bool) (handlers : List (List ℕ)) → map read_
 reading_calls readonly [] = refl
 reading_calls readonly (h ∷ handlers) = ap (λ cs. read_call h ∷ cs) (reading_calls readonly handlers)
 
--- no command makes a poll
+-- no command makes a Poll
 pub made_no_polls : (readonly : Bool) (commands : List Command) → AreNoPolls (map (call_of readonly) commands)
 made_no_polls readonly [] = tt
 made_no_polls readonly (command.Read handler text ∷ cs) = (refl, made_no_polls readonly cs)
@@ -49,7 +49,7 @@ last_call f (x ∷ calls) last (c ∷ cs) e =
     ends-cons f x calls last c cs head (last_call f calls last cs tail)
 
 module _ {P : Type 0} (asks : P → Call → Result Reply AskFault → P → Type 0) where
-  -- before the first call
+  -- no call was made yet
   pub asked-none : (p : P) (answers : List Answer) → answers ≡ [] → (readonly : Bool) (commands : List Command) → [] ≡ map (call_of readonly) commands
       → Asked asks readonly p commands answers p
   asked-none p answers none readonly [] e = subst (λ (l : List Answer). Asked asks readonly p [] l p) (sym none) (nothing p)
@@ -63,7 +63,7 @@ module _ {P : Type 0} (asks : P → Call → Result Reply AskFault → P → Typ
       subst (λ (cs : List Command). Asked asks readonly old cs (answers ++ a ∷ []) new) (sym whole)
       (then_one old mid new front answers c a (before front made) (subst (λ (k : Option Call). Answered asks mid k a new) ends step))
 
-  -- one more call
+  -- one more call was made
   pub asked-more : (old mid new : P) (calls : List (Option Call)) (answers more : List Answer) (call : Option Call) (a : Answer) → more ≡ answers ++ a ∷ []
       → ((readonly : Bool) (commands : List Command) → calls ≡ map (call_of readonly) commands → Asked asks readonly old commands answers mid)
       → Answered asks mid call a new

@@ -1,4 +1,4 @@
--- Fields added one after another.
+-- A lemma on header fields that are added one after another.
 use Rattle.std.proofs.Common.{◌≡◌, List, [], ◌∷◌, ◌++◌, append_assoc}
 
 pub six-added : {X : Type 0} (f0 f1 f2 f3 f4 f5 f6 : List X) (a b c d e g : X) → f1 ≡ f0 ++ a ∷ [] → f2 ≡ f1 ++ b ∷ [] → f3 ≡ f2 ++ c ∷ [] → f4 ≡ f3 ++ d ∷ []

@@ -1,4 +1,4 @@
--- Lemmas on texts, and on the hosts that are the page's own.
+-- Lemmas on the names of the page's own host.
 use Rattle.std.proofs.Common.{◌≡◌, ℕ, List, [], ◌∷◌, ◌++◌, length, map, take, drop, Bool, true, false, ◌&&◌, ◌||◌, codes, decimal, bytes_eq, nat_eq, if◌then◌else◌, refl, sym, ap, ◌∙◌}
 use Rattle.std.specs.List.{list_any}
 use Rattle.std.specs.Cmp.Lexicographic.{nat_list_eq_equiv}
@@ -8,7 +8,7 @@ and_assoc : (a b c : Bool) → (a && (b && c)) ≡ ((a && b) && c)
 and_assoc true b c = refl
 and_assoc false b c = refl
 
--- a text that begins with another, and what is left
+-- a text is a ++ b exactly if its first bytes are a and the rest is b
 bytes_eq-append : (a b v : List ℕ) → bytes_eq (a ++ b) v ≡ (bytes_eq a (take (length a) v) && bytes_eq b (drop (length a) v))
 bytes_eq-append [] b v = refl
 bytes_eq-append (x ∷ a) b [] = refl
@@ -16,7 +16,7 @@ bytes_eq-append (x ∷ a) b (y ∷ v) =
     ap (λ r. nat_eq x y && r) (bytes_eq-append a b v)
     ∙ and_assoc (nat_eq x y) (bytes_eq a (take (length a) v)) (bytes_eq b (drop (length a) v))
 
--- a host is a name with a port where it begins with the name, and what is left is a colon and the port
+-- a host is a name with a port if it begins with the name, and the rest is a colon and the port
 pub at_port-is : (port name host : List ℕ) → bytes_eq host (at_port port name)
     ≡ (bytes_eq name (take (length name) host)
     && (bytes_eq (58 ∷ []) (take 1 (drop (length name) host)) && bytes_eq (drop 1 (drop (length name) host)) port))
@@ -43,7 +43,7 @@ any_own_host port host =
     list_any-append (bytes_eq host) named (if nat_eq port 80 then own_names else [])
     ∙ ap (λ r. list_any (bytes_eq host) named || r) (any_if (bytes_eq host) (nat_eq port 80) own_names)
 
--- the same with what was found of the names with a port
+-- a host names the page if it is a name with the port, or the port is 80 and it is a name alone
 pub own_host_found : (port : ℕ) (digits host : List ℕ) (found : Bool) → found ≡ list_any (bytes_eq host) (map (at_port digits) own_names) → digits ≡ decimal port
     → list_any (bytes_eq host) (own_hosts port) ≡ (found || (nat_eq port 80 && list_any (bytes_eq host) own_names))
 own_host_found port digits host found e d =

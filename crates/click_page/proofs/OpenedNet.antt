@@ -1,4 +1,4 @@
--- The net of a flat form that opens.
+-- Lemmas on the net of a flat form that satisfies the port rules.
 use Rattle.std.proofs.Common.{◌≡◌, ◌⊎◌, ◌<◌, ◌∙◌, ℕ, zero, suc, List, [], ◌∷◌, length, get_or, Some, Result, Ok, Err, Bool, true, false, inl, inr, sym, subst, arith}
 use Rattle.click_classes.specs.Made.{IsMade}
 use Rattle.click_classes.specs.declared.fault.ArgFault.{ArgFault}
@@ -14,7 +14,7 @@ use Rattle.click_page.specs.Drawn.{IsLawfulForm}
 pub holds-not-fails : (b : Bool) → true ≡ b → b ≡ false → ⊥
 holds-not-fails b holds fails = let bad = holds ∙ fails in cc
 
--- an element that has a first state is refused it for want of memory alone
+-- making the first state of an element that has one fails only with out of memory
 pub refused-memory : (e : FlatElement) (text : List ℕ) (r : Result State ArgFault) (f : ArgFault) → (q : State) × IsBegun e (Ok q) → text ≡ e.text
     → ((s : Result State ArgFault) → IsMade e.class text s → (r ≡ s) ⊎ (r ≡ Err NoMemory)) → r ≡ Err f → f ≡ NoMemory
 refused-memory e text r f (q, begun) same only is =
@@ -31,6 +31,6 @@ begun-at (e ∷ es) [] fresh i d lt = absurd fresh
 begun-at (e ∷ es) (q ∷ qs) fresh zero d lt = (q, fresh.0)
 begun-at (e ∷ es) (q ∷ qs) fresh (suc i) d lt = begun-at es qs fresh.1 i d (omega arith)
 
--- with any first states the rules of ports hold
+-- the flat form satisfies the port rules with any first states
 pub lawful-with : (flat : Flat) (states : List State) → IsLawfulForm flat → AreFresh flat.elements states → IsLawful flat states
 lawful-with flat states (begun, fresh, lawful) mine = subst (IsLawful flat) (same_states flat.elements begun states fresh mine) lawful

@@ -1,4 +1,4 @@
--- How a page answers a request.
+-- A lemma on the answering of a request by the page.
 use Rattle.std.proofs.Common.{◌≡◌, ◌⊎◌, ℕ, List, Result, refl, subst}
 use Rattle.http.specs.declared.request.Request.{Request}
 use Rattle.http.specs.Request.{head_of, body_of}
@@ -13,7 +13,7 @@ use Rattle.click_page.specs.Asking.{commands_of, parse_request}
 use Rattle.click_page.specs.Saying.{SaysFor, SaysNoMemory}
 use Rattle.click_page.specs.declared.page_request.PageRequest.{PageRequest}
 
--- the wish was read, its commands were asked, and the answers were told, or memory ran out
+-- the request was parsed, its calls were made, and the answers were reported, or out of memory
 pub page_answers : {P : Type 0} (asks : P → Call → Result Reply AskFault → P → Type 0) (page : Paged P) (port : P) (page_request : PageRequest) (answers : List Answer)
     (request : Request (List ℕ)) (response : Response) → page_request ≡ parse_request page.at (head_of request) (body_of request)
     → Asked asks page.readonly page.port (commands_of page_request) answers port → SaysFor page_request answers response ⊎ SaysNoMemory response

@@ -1,4 +1,4 @@
--- What holds of what requests ask for.
+-- Lemmas on what requests ask for.
 use Rattle.std.proofs.Common.{◌≡◌, ℕ, ◌≤◌, List, [], ◌∷◌, length, map, Bool, true, false, not, ◌&&◌, nat_le, Option, Some, None, codes, bytes_eq, if◌then◌else◌, refl, sym, ap, subst, ◌∙◌, arith}
 use Rattle.std.specs.List.{list_all}
 use Rattle.std.proofs.lemmas.Bool.Decides.{nat_tests}
@@ -18,7 +18,7 @@ unfolding parse_request
 foreign port head body e =
     ap (λ b. commands_of (if b then request_at (route_of (uri_path head.uri)) head body else page_request.Refused refusal.Stranger)) e
 
--- ---- a property of the wishes of both cases is one of the choice
+-- ---- a property of both results of a choice is one of the choice
 either : (Q : PageRequest → Type 0) (b : Bool) (w v : PageRequest) → Q w → Q v → Q (if b then w else v)
 either Q true w v p q = p
 either Q false w v p q = q
@@ -42,7 +42,7 @@ place_reads route.Write head body e = absurd (cc)
 place_reads route.Swap head body e = absurd (cc)
 place_reads _ head body e = refl
 
--- a write wants the method and the header
+-- a write needs the method and the header
 write_gate : (method marked : Bool) (w : PageRequest) → (marked && method) ≡ false
     → OnlyReads (if method then (if not marked then page_request.Refused refusal.NoMark else w) else page_request.Refused refusal.WrongMethod)
 unfolding OnlyReads
@@ -74,7 +74,7 @@ unmarked port head body e =
     either (λ w. AreReads (commands_of w)) (is_for_own_host port head) (request_at (route_of (uri_path head.uri)) head body) (page_request.Refused refusal.Stranger)
     (asked_reads (route_of (uri_path head.uri)) head body e) refl
 
--- ---- how many commands
+-- ---- the number of commands
 
 Few : PageRequest → Type 0
 Few w = length (commands_of w) ≤ 256
@@ -130,7 +130,7 @@ few port head body =
     either (λ w. length (commands_of w) ≤ 256) (is_for_own_host port head) (request_at (route_of (uri_path head.uri)) head body) (page_request.Refused refusal.Stranger)
     (asked_few (route_of (uri_path head.uri)) head body) (omega arith)
 
--- ---- a page that may only read
+-- ---- a read-only page
 
 made_readings : (handlers : List (List ℕ)) → MakeReads true (map reading handlers)
 made_readings [] = refl

@@ -1,4 +1,4 @@
--- The text of bytes, a byte at a time.
+-- Lemmas on converting bytes to text, one byte at a time.
 use Rattle.std.proofs.Common.{◌≡◌, ◌+◌, ◌<◌, ℕ, List, [], ◌∷◌, ◌++◌, length, take, get_or, sym}
 use Rattle.std.proofs.lemmas.List.{take_more, append-nil}
 use Rattle.std.proofs.lemmas.Str.{encodes-append}

@@ -1,4 +1,4 @@
--- What is told has no float.
+-- Lemmas on the JSON of responses: it has no floating-point number.
 use Rattle.std.proofs.Common.{◌≡◌, List, [], ◌∷◌, map, false, refl}
 use Rattle.serde_json.specs.Data.{Data}
 use Rattle.serde_json.specs.View.{items_of}

@@ -1,4 +1,4 @@
--- What the page does with a request: the state of the page before and after it.
+-- The answering of a request by the page, with the page before and after it.
 use Rattle.std.specs.Prelude.{◌≡◌, ◌⊎◌, ℕ, List, Bool, Result}
 use Rattle.http.specs.declared.request.Request.{Request}
 use Rattle.http.specs.Request.{head_of, body_of}
@@ -11,13 +11,15 @@ use Rattle.click_control.specs.declared.port.AskFault.{AskFault}
 use Rattle.click_page.specs.Asking.{parse_request, commands_of}
 use Rattle.click_page.specs.Saying.{SaysFor, SaysNoMemory}
 
--- a page: where its calls go, whether it may only read, and the port of 127.0.0.1 that it is at
+-- a page: the port through which it makes calls, whether it may only read, and its port of
+-- 127.0.0.1
 pub record Paged (P : Type 0) : Type 0 where
   pub port : P
   pub readonly : Bool
   pub at : ℕ
 
--- The page answers a request: of the port it asked just the commands of the request's wish, in order, as a session does, and the response is what these answers are told as; or memory ran out.
+-- The page answers a request. It made exactly the calls of the request's commands, in order, as a
+-- session does. The response reports the answers, or out of memory.
 pub record AnswersSo {P : Type 0} (asks : P → Call → Result Reply AskFault → P → Type 0) (old : Paged P) (request : Request (List ℕ)) (response : Response) (new : Paged P) : Type 0 where
   pub same : (new.readonly ≡ old.readonly) × (new.at ≡ old.at)
   pub answers : List Answer

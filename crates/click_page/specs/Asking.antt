@@ -1,4 +1,4 @@
--- What a request asks for, and which commands of a session it makes.
+-- What a request asks for, and the commands of a session that it makes.
 use Rattle.std.specs.Prelude.{ℕ, ◌≤◌, ◌==◌, List, [], ◌∷◌, ◌++◌, length, map, Bool, true, false, not, ◌&&◌, nat_le, Option, Some, None, is_none, unwrap_or, codes, decimal, bytes_eq, if◌then◌else◌}
 use Rattle.std.specs.List.{list_any, list_all}
 use Rattle.std.specs.Str.Lossy.{utf8_lossy}
@@ -15,7 +15,7 @@ use Rattle.click_page.specs.declared.page_request.PageRequest.{PageRequest}
 use Rattle.click_page.specs.declared.page_request.PageRequest.TheVariants as page_request
 use Rattle.click_page.specs.declared.page_request.RequestRefusal.TheVariants as refusal
 
--- how a browser on this machine names it
+-- the names of this machine's own host that a browser may use
 abbrev pub own_names : List (List ℕ)
 own_names = codes "127.0.0.1" ∷ codes "localhost" ∷ codes "[::1]" ∷ []
 
@@ -23,43 +23,44 @@ own_names = codes "127.0.0.1" ∷ codes "localhost" ∷ codes "[::1]" ∷ []
 abbrev pub at_port : List ℕ → List ℕ → List ℕ
 at_port port name = name ++ (codes ":" ++ port)
 
--- the values of Host that name the page at this port; port 80 is left out by browsers
+-- the values of Host that name the page at this port; browsers leave port 80 out
 unfoldable pub own_hosts : ℕ → List (List ℕ)
 own_hosts port = map (at_port (decimal port)) own_names ++ (if port == 80 then own_names else [])
 
--- there is one value, and it is one of these
+-- there is exactly one value, and it is one of these names
 abbrev pub is_one_of : List (List ℕ) → List FieldValue → Bool
 is_one_of names [] = false
 is_one_of names (value ∷ []) = list_any (bytes_eq value.bytes) names
 is_one_of names (first ∷ second ∷ rest) = false
 
--- the request is for the page at this port: its one Host names it, and its target names no other place
+-- The request is for the page at this port: it has exactly one Host field, which names the page,
+-- and its target names no host.
 abbrev pub is_for_own_host : ℕ → Parts → Bool
 is_for_own_host port head = is_none (uri_authority head.uri) && is_one_of (own_hosts port) (get_all head.headers (codes "host"))
 
--- it has the header that a page of another place may not send
+-- the request has the header that browsers do not let a page of another origin send
 abbrev pub has_page_header : Parts → Bool
 has_page_header head = nat_le 1 (length (get_all head.headers (codes "x-click-page")))
 
--- the names and values of its query, still encoded
+-- the names and values of the request's query, still encoded
 abbrev pub pairs_of : Parts → List (List ℕ × List ℕ)
 pairs_of head = raw_pairs (unwrap_or (uri_query head.uri) [])
 
--- each of them is a handler
+-- each name is `handler`
 abbrev pub are_handlers : List (List ℕ × List ℕ) → Bool
 are_handlers pairs = list_all (λ p. bytes_eq p.0 (codes "handler")) pairs
 
--- the handlers that the values name
+-- the handlers that the values name, decoded
 abbrev pub handlers_in : List (List ℕ × List ℕ) → List (List ℕ)
 handlers_in pairs = map (λ p. utf8_lossy (decode p.1)) pairs
 
--- from 1 to 256 handlers are read at once
+-- what a query asks to read: from 1 to 256 handlers
 abbrev pub read_of : List (List ℕ × List ℕ) → PageRequest
 read_of pairs =
     if are_handlers pairs && nat_le 1 (length pairs) && nat_le (length pairs) 256
     then page_request.Read (handlers_in pairs) else page_request.Refused refusal.WrongQuery
 
--- one handler is written
+-- what a query asks to write: one handler
 abbrev pub write_to : List (List ℕ) → List ℕ → PageRequest
 write_to [] text = page_request.Refused refusal.WrongQuery
 write_to (name ∷ []) text = page_request.Write name text
@@ -68,7 +69,7 @@ write_to (first ∷ second ∷ rest) text = page_request.Refused refusal.WrongQu
 abbrev pub write_of : List (List ℕ × List ℕ) → List ℕ → PageRequest
 write_of pairs text = if are_handlers pairs then write_to (handlers_in pairs) text else page_request.Refused refusal.WrongQuery
 
--- the place that a path names
+-- the route of a path
 unfoldable pub route_of : List ℕ → Option Route
 route_of path =
     if bytes_eq path (codes "/") then Some route.Page
@@ -79,7 +80,7 @@ route_of path =
     else (if bytes_eq path (codes "/swap") then Some route.Swap
     else None)))))
 
--- what a place is for: a read, or a write
+-- whether requests for a route write
 abbrev pub is_write : Route → Bool
 is_write route.Page = false
 is_write route.Picture = false
@@ -88,11 +89,11 @@ is_write route.Read = false
 is_write route.Write = true
 is_write route.Swap = true
 
--- the method that is wanted at a place
+-- the method of requests for a route
 abbrev pub method_at : Route → List ℕ
 method_at p = if is_write p then codes "POST" else codes "GET"
 
--- what is asked for at a place
+-- what a request for this route asks for
 unfoldable pub request_on_route : Route → Parts → List ℕ → PageRequest
 request_on_route route.Page head body = page_request.Page
 request_on_route route.Picture head body = page_request.Picture
@@ -101,14 +102,14 @@ request_on_route route.Read head body = read_of (pairs_of head)
 request_on_route route.Write head body = write_of (pairs_of head) body
 request_on_route route.Swap head body = page_request.Write (codes "hotconfig") body
 
--- what only a request of the place's method gets, and to write only one with the header
+-- what is asked for if the request has the route's method, and for a write the header
 abbrev pub if_allowed : Route → Parts → PageRequest → PageRequest
 if_allowed p head w =
     if bytes_eq head.method (method_at p)
     then (if is_write p && not (has_page_header head) then page_request.Refused refusal.NoMark else w)
     else page_request.Refused refusal.WrongMethod
 
--- what is asked of this page, at a place or at none
+-- what a request for this page's own host asks for; the route is none if its path is unknown
 unfoldable pub request_at : Option Route → Parts → List ℕ → PageRequest
 request_at None head body = page_request.Refused refusal.NoPlace
 request_at (Some p) head body = if_allowed p head (request_on_route p head body)
@@ -124,7 +125,8 @@ parse_request port head body =
 abbrev pub reading : List ℕ → Command
 reading handler = command.Read handler []
 
--- The commands of a session that a wish makes: pictures and flat forms are made of the text that runs.
+-- The commands of a session that a request makes. A picture or a flat form is made from the running
+-- configuration, which is read.
 abbrev pub commands_of : PageRequest → List Command
 commands_of page_request.Page = []
 commands_of page_request.Picture = reading (codes "config") ∷ []

@@ -12,7 +12,7 @@ use Rattle.click_ports.specs.Net.{Net, net_of}
 use Rattle.click_router.specs.Opened.{AreFresh, IsLawful, IsOpened}
 use Rattle.click_router.specs.State.{RouterState}
 
--- the elements have first states, with which the rules of ports hold
+-- the elements have first states, with which the flat form satisfies the port rules
 abbrev pub IsLawfulForm : Flat → Type 0
 IsLawfulForm flat = (states : List State) × AreFresh flat.elements states × IsLawful flat states
 
@@ -24,7 +24,8 @@ IsFormNet flat net = (states : List State) × AreFresh flat.elements states × (
 abbrev pub IsNetOf : List ℕ → Net → Type 0
 IsNetOf text net = (state : RouterState) × IsOpened text state × IsFormNet state.flat net
 
--- The drawing shows the net: each element in a box of its own, as large as it needs, each connection as a line from its output to its input, and all of it within the picture.
+-- The drawing shows the net. Each element has a box of its own, as large as it needs. Each
+-- connection is a line from its output to its input. All of this is inside the picture.
 pub record Shows (net : Net) (d : Drawing) : Type 0 where
   pub figures : length d.figures ≡ length net.shapes
   pub each : EachAt (IsFigure net) d.figures

@@ -1,4 +1,4 @@
--- The running configuration's flat form, as JSON.
+-- The flat form of the running configuration, as JSON.
 use Rattle.std.specs.Prelude.{◌≡◌, ℕ, List, [], ◌∷◌, map, codes, encode_utf8_all}
 use Rattle.serde_json.specs.Data.{Data, no_members, member, string, boolean, number, array, object, unsigned}
 use Rattle.serde_json.specs.View.{items_of}
@@ -16,7 +16,7 @@ use Rattle.click_router.specs.Opened.{IsOpened}
 use Rattle.click_router.specs.State.{RouterState}
 use Rattle.click_page.specs.Drawn.{IsFormNet, Shows}
 
--- Bytes as a text of JSON: each byte is the character of its number, so that none is lost.
+-- Bytes as a JSON string. Each byte is the character with its number, so that no byte is lost.
 abbrev pub bytes_data : List ℕ → Data
 bytes_data bytes = string (encode_utf8_all bytes)
 
@@ -26,11 +26,12 @@ list_data ds = array (items_of ds)
 abbrev pub number_data : ℕ → Data
 number_data n = number (unsigned n)
 
--- a port: whether its class leaves it open, and whether it is pull
+-- a port: whether it is agnostic in its class, and whether it is pull
 abbrev pub port_data : Mark → Data
 port_data m = object (member (codes "agnostic") (boolean m.agnostic) (member (codes "pull") (boolean m.pull) no_members))
 
--- an element: its class, name and text, its ports, and the handlers that can be read and written
+-- an element: its class, name and configuration string, its ports, and its handlers that can be
+-- read or written
 abbrev pub element_data : FlatElement → Figure → Data
 element_data e f = object (
     member (codes "class") (bytes_data (name f.look.class)) (
@@ -47,7 +48,7 @@ elements_data [] figures = []
 elements_data (e ∷ es) [] = []
 elements_data (e ∷ es) (f ∷ figures) = element_data e f ∷ elements_data es figures
 
--- a connection: the element it leaves and its output, the element it enters and its input
+-- a connection: its source element and output, and its target element and input
 abbrev pub connection_data : Connection → Data
 connection_data c = list_data (number_data c.from ∷ number_data c.out_port ∷ number_data c.to ∷ number_data c.in_port ∷ [])
 
@@ -56,7 +57,7 @@ flat_data flat d = object (
     member (codes "connections") (list_data (map connection_data flat.connections)) (
     member (codes "elements") (list_data (elements_data flat.elements d.figures)) no_members))
 
--- the JSON of the flat form, with the marks of its ports as a drawing of its net has them
+-- the JSON of the flat form, with its ports as a drawing of its net marks them
 abbrev pub IsFormText : Flat → Net → List ℕ → Type 0
 IsFormText flat net made = (d : Drawing) × Shows net d × (made ≡ compact_text (flat_data flat d))
 

@@ -1,4 +1,4 @@
--- What a request is answered.
+-- The response to a request.
 use Rattle.std.specs.Prelude.{◌⊎◌, ℕ, List, [], ◌∷◌, map, true, codes}
 use Rattle.serde_json.specs.Data.{Data, no_members, member, boolean, number, object, unsigned}
 use Rattle.serde_json.specs.Written.{compact_text}
@@ -35,7 +35,7 @@ done_data = object (member (codes "done") (boolean true) no_members)
 abbrev pub fault_data : ℕ → List ℕ → Data
 fault_data code text = object (member (codes "fault") (number (unsigned code)) (member (codes "text") (bytes_data text) no_members))
 
--- the number under which a session is told why a call has no value and was not done
+-- the status number in a session's reply to a call that failed or was refused
 abbrev pub fault_number : Answer → ℕ
 fault_number (answer.Replied (reply.Refused refused.NoElement)) = 510
 fault_number (answer.Replied (reply.Refused refused.NoHandler)) = 511
@@ -43,19 +43,22 @@ fault_number (answer.Replied (reply.Refused refused.WrongWay)) = 530
 fault_number answer.NoCall = 530
 fault_number _ = 520
 
--- The answer to a command: what was read, that it was done, or the number and the lines that a session is told.
+-- The answer to a command, as JSON: the value that was read; that a write succeeded; or the number
+-- and the lines of a session's reply.
 abbrev pub entry_of : Command → Answer → Data
 entry_of c (answer.Replied (reply.Value bytes)) = value_data bytes
 entry_of c (answer.Replied reply.Done) = done_data
 entry_of c a = fault_data (fault_number a) (text_of c a)
 
--- the answers to commands, each at its place
+-- the answers to commands, in their order
 abbrev pub entries_of : List Command → List Answer → List Data
 entries_of [] answers = []
 entries_of (c ∷ cs) [] = []
 entries_of (c ∷ cs) (a ∷ answers) = entry_of c a ∷ entries_of cs answers
 
--- what every answer says of itself: that it is kept by nobody, taken for nothing else, shown in nobody's frame, and lets in nothing from elsewhere
+-- The header fields that every response has. It is not cached, its type is not guessed, no page
+-- shows it in a frame, and no page of another origin loads it. It loads nothing from elsewhere and
+-- sends no referrer.
 abbrev pub guards : List Header
 guards =
     (codes "cache-control", codes "no-store") ∷ (codes "content-security-policy", POLICY.now) ∷ (codes "x-content-type-options", codes "nosniff")
@@ -70,7 +73,7 @@ type_name kind.Text = codes "text/plain; charset=utf-8"
 abbrev pub fields_for : ContentKind → List Header
 fields_for k = (codes "content-type", type_name k) ∷ guards
 
--- the response says this
+-- the response has this status, the header fields for this kind of content, and this body
 abbrev pub Says : ℕ → ContentKind → List ℕ → Response → Type 0
 Says status k body r = IsResponse status (fields_for k) body r
 
@@ -88,20 +91,22 @@ refusal_line why.WrongMethod = codes "another method is wanted here\n"
 refusal_line why.NoMark = codes "a write needs the header x-click-page\n"
 refusal_line why.WrongQuery = codes "the query names no handlers, or too many\n"
 
--- What is made of a text that was read: this, or why the text opens nothing any more. Anything else is told as the answer to a read is.
+-- The response to a request for the picture or the flat form, by the answer to the read of the
+-- configuration. It is what was made of the text, or the first fault of the text. If the read gave
+-- no value, it is the answer to the read.
 abbrev pub SaysMade : ContentKind → (List ℕ → List ℕ → Type 0) → Answer → Response → Type 0
 SaysMade k Makes (answer.Replied (reply.Value text)) r =
     ((made : List ℕ) × Makes text made × Says 200 k made r)
     ⊎ ((fault : ConfigFault) × IsFirstFault text fault × Says 200 kind.Json (compact_text (fault_data 520 (fault_text fault))) r)
 SaysMade k Makes a r = Says 200 kind.Json (compact_text (entry_of (reading (codes "config")) a)) r
 
--- the same of the one answer that there is
+-- the response by the answer to the only command of a request
 abbrev pub SaysOne : ContentKind → (List ℕ → List ℕ → Type 0) → List Answer → Response → Type 0
 SaysOne k Makes [] r = ⊥
 SaysOne k Makes (a ∷ []) r = SaysMade k Makes a r
 SaysOne k Makes (a ∷ b ∷ answers) r = ⊥
 
--- What a wish whose commands were answered so is answered.
+-- The response to a request whose commands were answered in this way.
 abbrev pub SaysFor : PageRequest → List Answer → Response → Type 0
 SaysFor page_request.Page answers r = Says 200 kind.Html PAGE.now r
 SaysFor page_request.Picture answers r = SaysOne kind.Svg IsPicture answers r
@@ -111,6 +116,6 @@ SaysFor (page_request.Write handler text) [] r = ⊥
 SaysFor (page_request.Write handler text) (a ∷ answers) r = Says 200 kind.Json (compact_text (entry_of (command.Write handler text) a)) r
 SaysFor (page_request.Refused why) answers r = Says (status_of why) kind.Text (refusal_line why) r
 
--- memory ran out: a bare 503
+-- out of memory: status 503 without fields or body
 abbrev pub SaysNoMemory : Response → Type 0
 SaysNoMemory r = IsResponse 503 [] [] r

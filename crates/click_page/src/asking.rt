@@ -1,4 +1,4 @@
-//! The calls of a wish, and asking a port for them.
+//! Making the calls of a request.
 
 ghost use Rattle.std.specs.Prelude.{◌≡◌, ◌≤◌, ℕ, List, [], Bool, Some, length, map, vec_capacity, IfOk, IfSome, false};
 ghost use Rattle.click_router.specs.Polls.{is_poll};
@@ -13,7 +13,10 @@ use click_control::{Answer, Port};
 use click_router::Call;
 use std::alloc::{AllocError, Global};
 
-/// The calls of a wish's commands, in order. All their memory is taken here. A read-only page has none that would write.
+/// Returns the calls of a request's commands, in order. A read-only page has no call that would
+/// write.
+///
+/// Allocates all the memory that these calls need.
 pub(crate) fn calls_of(
     alloc: Global,
     page_request: &PageRequest,
@@ -35,7 +38,7 @@ pub(crate) fn calls_of(
     }
 }
 
-/// The calls that read these handlers.
+/// Returns the calls that read these handlers.
 fn read_calls(alloc: Global, handlers: &[Sequence<u8>]) -> Result<Vec<Option<Call>>, AllocError>
     ensures { IfOk result (λ calls. calls.items ≡ map read_call handlers.now) }
 {
@@ -46,7 +49,7 @@ fn read_calls(alloc: Global, handlers: &[Sequence<u8>]) -> Result<Vec<Option<Cal
     Ok(calls)
 }
 
-/// The call that reads a handler, with no text.
+/// Returns the call that reads a handler, with an empty text.
 fn read_call(alloc: Global, handler: &[u8]) -> Result<Option<Call>, AllocError>
     ensures { IfOk result (λ call. call ≡ read_call handler.now) }
 {
@@ -55,7 +58,7 @@ fn read_call(alloc: Global, handler: &[u8]) -> Result<Option<Call>, AllocError>
     Ok(Some(Call::Read { name, text }))
 }
 
-/// The call that writes a handler, where it may be made.
+/// Returns the call that writes a handler, or `None` on a read-only page.
 fn write_call(
     alloc: Global,
     handler: &[u8],
@@ -72,7 +75,9 @@ fn write_call(
     Ok(Some(Call::Write { name, text }))
 }
 
-/// Asks the port each call, in order, once. It takes no memory for the list of answers, which has room for them.
+/// Makes each call once, in order, and returns the answers.
+///
+/// The list of answers has room for all of them, so that it needs no more memory.
 pub(crate) fn ask_all<P: Port>(
     alloc: Global,
     port: &mut P,
@@ -91,7 +96,7 @@ pub(crate) fn ask_all<P: Port>(
     answers
 }
 
-/// Asks the port, where there is a call.
+/// Makes the call, if there is one, and returns the answer.
 fn ask_one<P: Port>(alloc: Global, port: &mut P, call: Option<Call>) -> Answer
     requires { IfSome call (λ c. is_poll c ≡ false) }
     ensures { Answered P.asks port.old call result port.new }

@@ -1,6 +1,6 @@
-//! How an answer looks: what kind of text it is, and the fields of its head.
+//! The kinds of content of a response.
 
-/// What kind of text an answer is.
+/// The kind of content of a response, which its content type names.
 #[derive(Clone, Copy, Debug, PartialEq, Eq)]
 pub enum ContentKind {
     Html,

@@ -1,4 +1,4 @@
-//! What answers to commands are told as, in JSON.
+//! The answers to commands, as JSON.
 
 ghost use Rattle.std.specs.Prelude.{◌≡◌, [], length, map, IfOk};
 ghost use Rattle.serde_json.specs.View.{view};
@@ -14,28 +14,28 @@ use click_router::{Refusal, Reply};
 use serde_json::{Value, json};
 use std::alloc::{AllocError, Global};
 
-/// What was read.
+/// Returns the JSON of a value that was read.
 fn value_entry(alloc: Global, bytes: &[u8]) -> Result<Value, AllocError>
     ensures { IfOk result (λ value. view value ≡ value_data bytes.now) }
 {
     json!(in alloc; {"value": text_value(alloc, bytes)?})
 }
 
-/// That it was done.
+/// Returns the JSON that reports a successful write.
 fn done_entry(alloc: Global) -> Result<Value, AllocError>
     ensures { IfOk result (λ value. view value ≡ done_data) }
 {
     json!(in alloc; {"done": true})
 }
 
-/// A fault: its number, and the text that tells it.
+/// Returns the JSON of a fault: its number and its text.
 pub(crate) fn fault_entry(alloc: Global, number: u16, text: &[u8]) -> Result<Value, AllocError>
     ensures { IfOk result (λ value. view value ≡ fault_data number text.now) }
 {
     json!(in alloc; {"fault": number, "text": text_value(alloc, text)?})
 }
 
-/// The number under which a session is told why a call has no value and was not done.
+/// Returns the status number in a session's reply to a call that failed or was refused.
 fn fault_number(answer: &Answer) -> u16
     ensures { result ≡ fault_number answer.now }
 {
@@ -47,7 +47,7 @@ fn fault_number(answer: &Answer) -> u16
     }
 }
 
-/// Why a command has no value and was not done, with the lines that a session is told.
+/// Returns the JSON of a command that failed or was refused, with the lines of a session's reply.
 fn refused_entry(alloc: Global, command: &Command, answer: &Answer) -> Result<Value, AllocError>
     ensures { IfOk result (λ value. view value ≡ fault_data (fault_number answer.now) (text_of command.now answer.now)) }
 {
@@ -55,7 +55,7 @@ fn refused_entry(alloc: Global, command: &Command, answer: &Answer) -> Result<Va
     fault_entry(alloc, fault_number(answer), text.as_slice())
 }
 
-/// The command that reads a handler.
+/// Returns the command that reads a handler.
 fn read_command(alloc: Global, handler: &[u8]) -> Result<Command, AllocError>
     ensures { IfOk result (λ command. command ≡ reading handler.now) }
 {
@@ -65,7 +65,8 @@ fn read_command(alloc: Global, handler: &[u8]) -> Result<Command, AllocError>
     })
 }
 
-/// A command that writes a handler: what a session is told of one goes by no text.
+/// Returns a command that writes a handler. Its text is empty, because the reply does not depend on
+/// it.
 fn write_command(alloc: Global, handler: &[u8]) -> Result<Command, AllocError>
     ensures { IfOk result (λ command. command ≡ Command.Write handler.now []) }
 {
@@ -75,7 +76,7 @@ fn write_command(alloc: Global, handler: &[u8]) -> Result<Command, AllocError>
     })
 }
 
-/// The answer to a read of the handler.
+/// Returns the JSON of the answer to a read of a handler.
 pub(crate) fn read_entry(
     alloc: Global,
     handler: &[u8],
@@ -90,7 +91,7 @@ pub(crate) fn read_entry(
     }
 }
 
-/// The answer to a write of the handler.
+/// Returns the JSON of the answer to a write of a handler.
 pub(crate) fn write_entry(
     alloc: Global,
     handler: &[u8],
@@ -105,7 +106,7 @@ pub(crate) fn write_entry(
     }
 }
 
-/// The answers to reads of the handlers, each at its place.
+/// Returns the JSON of the answers to reads of the handlers, in their order.
 pub(crate) fn read_entries(
     alloc: Global,
     handlers: &[Sequence<u8>],

@@ -18,14 +18,14 @@ use click_router::{ConfigFault, prepare};
 use serde_json::{Value, json};
 use std::alloc::{AllocError, Global};
 
-/// A port as a value.
+/// Returns the JSON of a port.
 fn port_value(alloc: Global, mark: &Mark) -> Result<Value, AllocError>
     ensures { IfOk result (λ value. view value ≡ port_data mark.now) }
 {
     json!(in alloc; {"agnostic": mark.agnostic, "pull": mark.pull})
 }
 
-/// The ports of a side as values.
+/// Returns the JSON of the inputs or outputs of an element.
 fn ports_value(alloc: Global, marks: &[Mark]) -> Result<Value, AllocError>
     ensures { IfOk result (λ value. view value ≡ list_data (map port_data marks.now)) }
 {
@@ -36,7 +36,7 @@ fn ports_value(alloc: Global, marks: &[Mark]) -> Result<Value, AllocError>
     Ok(Value::from(values))
 }
 
-/// The names of handlers as values.
+/// Returns the JSON of the names of handlers.
 fn names_value(alloc: Global, names: &[&[u8]]) -> Result<Value, AllocError>
     ensures { IfOk result (λ value. view value ≡ list_data (map bytes_data (map (λ n. n.now) names.now))) }
 {
@@ -47,21 +47,21 @@ fn names_value(alloc: Global, names: &[&[u8]]) -> Result<Value, AllocError>
     Ok(Value::from(values))
 }
 
-/// The handlers of a class that can be read, as values.
+/// Returns the JSON of the handlers of a class that can be read.
 fn reads_value(alloc: Global, class: Class) -> Result<Value, AllocError>
     ensures { IfOk result (λ value. view value ≡ list_data (map bytes_data (reads_of class))) }
 {
     names_value(alloc, reads_of(class))
 }
 
-/// The handlers of a class that can be written, as values.
+/// Returns the JSON of the handlers of a class that can be written.
 fn writes_value(alloc: Global, class: Class) -> Result<Value, AllocError>
     ensures { IfOk result (λ value. view value ≡ list_data (map bytes_data (writes_of class))) }
 {
     names_value(alloc, writes_of(class))
 }
 
-/// An element as a value.
+/// Returns the JSON of an element.
 fn element_value(alloc: Global, element: &FlatElement, figure: &Figure) -> Result<Value, AllocError>
     ensures { IfOk result (λ value. view value ≡ element_data element.now figure.now) }
 {
@@ -77,7 +77,7 @@ fn element_value(alloc: Global, element: &FlatElement, figure: &Figure) -> Resul
     })
 }
 
-/// The elements as values, each with its figure.
+/// Returns the JSON of the elements, each with its figure.
 fn elements_value(
     alloc: Global,
     elements: &[FlatElement],
@@ -93,14 +93,14 @@ fn elements_value(
     Ok(Value::from(values))
 }
 
-/// A connection as a value.
+/// Returns the JSON of a connection.
 fn connection_value(alloc: Global, connection: &Connection) -> Result<Value, AllocError>
     ensures { IfOk result (λ value. view value ≡ connection_data connection.now) }
 {
     json!(in alloc; [connection.from, connection.out_port, connection.to, connection.in_port])
 }
 
-/// The connections as values.
+/// Returns the JSON of the connections.
 fn connections_value(alloc: Global, connections: &[Connection]) -> Result<Value, AllocError>
     ensures { IfOk result (λ value. view value ≡ list_data (map connection_data connections.now)) }
 {
@@ -111,7 +111,7 @@ fn connections_value(alloc: Global, connections: &[Connection]) -> Result<Value,
     Ok(Value::from(values))
 }
 
-/// A flat form as a value, with the marks of its ports as the drawing has them.
+/// Returns the JSON of a flat form. Its ports are push, pull or agnostic as the drawing marks them.
 fn flat_value(alloc: Global, flat: &Flat, drawing: &Drawing) -> Result<Value, AllocError>
     requires all { length drawing.now.figures ≡ length flat.now.elements }
     ensures { IfOk result (λ value. view value ≡ flat_data flat.now drawing.now) }
@@ -122,7 +122,7 @@ fn flat_value(alloc: Global, flat: &Flat, drawing: &Drawing) -> Result<Value, Al
     })
 }
 
-/// The JSON of a flat form, by a drawing of its net.
+/// Returns the text of the JSON of a flat form with this net.
 fn form_text(alloc: Global, flat: &Flat, net: &Net) -> Result<Vec<u8>, AllocError>
     requires net { IsFormNet flat.now net.now }
     requires few { length net.now.shapes ≤ 4096 }
@@ -132,7 +132,8 @@ fn form_text(alloc: Global, flat: &Flat, net: &Net) -> Result<Vec<u8>, AllocErro
     json_text(alloc, &flat_value(alloc, flat, &drawing)?)
 }
 
-/// The JSON of the flat form of the text's configuration, or the first fault that the configuration has.
+/// Returns the text of the JSON of the configuration's flat form. Fails with the configuration's
+/// first fault, or with out of memory.
 pub fn flat_text(alloc: Global, text: &[u8]) -> Result<Vec<u8>, ConfigFault>
     ensures text { IfOk result (λ made. IsFlatText text.now made.items) }
     ensures fault { IfErr result (λ fault. IsMemoryOr fault (IsFirstFault text.now fault)) }

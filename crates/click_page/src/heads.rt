@@ -1,4 +1,4 @@
-//! What a response says: its status, its head and its body.
+//! Filling in a response: its status, header fields and body.
 
 ghost use Rattle.std.specs.Prelude.{◌≡◌, ◌∷◌, [], ◌++◌, IsTrue, OnOk, codes};
 ghost use Rattle.http_header.specs.FieldValue.{is_visible_text};
@@ -15,7 +15,7 @@ use http_header::{HeaderName, HeaderValue};
 use http_server::Response;
 use std::alloc::AllocError;
 
-/// What a head says that a text of that kind is.
+/// Returns the content type of a kind of content.
 fn type_name(kind: ContentKind) -> HeaderValue
     ensures { result.bytes ≡ type_name kind }
 {
@@ -27,7 +27,7 @@ fn type_name(kind: ContentKind) -> HeaderValue
     }
 }
 
-/// Adds a field.
+/// Adds a header field.
 fn add(response: &mut Response, name: &'static str, value: &'static str) -> Result<(), AllocError>
     requires name { IsTrue (is_header_name name.now) }
     requires value { IsTrue (is_visible_text value.now) }
@@ -41,7 +41,9 @@ fn add(response: &mut Response, name: &'static str, value: &'static str) -> Resu
     )
 }
 
-/// Adds the content policy, which is not copied.
+/// Adds the content security policy.
+///
+/// perf: the policy is not copied.
 fn add_policy(response: &mut Response) -> Result<(), AllocError>
     ensures added { OnOk result (fields_of response.new ≡ fields_of response.old ++ (codes "content-security-policy", POLICY.now) ∷ []) }
     ensures status { response.new.status ≡ response.old.status }
@@ -52,7 +54,7 @@ fn add_policy(response: &mut Response) -> Result<(), AllocError>
     Ok(())
 }
 
-/// Adds what every answer says of itself.
+/// Adds the header fields that every response has.
 fn add_guards(response: &mut Response) -> Result<(), AllocError>
     ensures added { OnOk result (fields_of response.new ≡ fields_of response.old ++ guards) }
     ensures status { response.new.status ≡ response.old.status }
@@ -67,7 +69,7 @@ fn add_guards(response: &mut Response) -> Result<(), AllocError>
     Ok(())
 }
 
-/// Gives a response the status, the head for that kind of text, and the text as its body.
+/// Gives a response this status, the header fields for this kind of content, and this body.
 pub(crate) fn say_bytes(
     status: StatusCode,
     kind: ContentKind,
@@ -83,7 +85,7 @@ pub(crate) fn say_bytes(
     response.body.push(body)
 }
 
-/// The same with a text that was made for it.
+/// Gives a response the status 200, the header fields for this kind of content, and this body.
 pub(crate) fn say_text(
     kind: ContentKind,
     text: Vec<u8>,

@@ -1,4 +1,5 @@
-//! A page over a router: what a request of HTTP asks for, which commands of a session it makes, and what it is answered.
+//! A page over a router: what an HTTP request asks for, the commands of a session that it makes,
+//! and the response to it.
 #![tactic(auto)]
 
 mod asking;

@@ -1,4 +1,4 @@
-//! Whether a request is this page's own.
+//! Whether a request is for this page's own host.
 
 ghost use Rattle.std.specs.Prelude.{◌≡◌, map, codes, bytes_eq};
 ghost use Rattle.std.specs.List.{list_any};
@@ -10,17 +10,20 @@ use bytes::Bytes;
 use http::{HeaderMap, Request};
 use itoa::Buffer;
 
-/// The port that browsers leave out of a Host.
+/// The port that browsers leave out of a Host field.
 const PLAIN_PORT: u16 = 80;
 
-/// Whether the request is for the page at this port: its one Host names it, and its target names no other place.
+/// Returns whether the request is for the page at this port.
+///
+/// It has exactly one Host field, which names the page, and its target names no host.
 pub(crate) fn is_for_own_host(port: u16, request: &Request<Bytes>) -> bool
     ensures { result ≡ is_for_own_host port (head_of request.now) }
 {
     request.uri().authority().is_none() && has_own_host(port, request.headers())
 }
 
-/// Whether the request has the header that no page of another place may send.
+/// Returns whether the request has the header that browsers do not let a page of another origin
+/// send.
 pub(crate) fn has_page_header(request: &Request<Bytes>) -> bool
     ensures { result ≡ has_page_header (head_of request.now) }
 {
@@ -66,7 +69,7 @@ fn is_own_name(host: &[u8]) -> bool
         || host == b"[::1]".as_slice()
 }
 
-/// Whether the host is the name with this port.
+/// Returns whether the host is this name with this port.
 fn is_at_port(name: &[u8], port: &[u8], host: &[u8]) -> bool
     ensures { result ≡ bytes_eq host.now (at_port port.now name.now) }
 {

@@ -1,4 +1,4 @@
-//! What a request of the page asks for.
+//! The requests of the page.
 
 use click_base::sequence::Sequence;
 
@@ -9,13 +9,13 @@ pub enum PageRequest {
     Page,
     /// The picture of the running configuration.
     Picture,
-    /// The running configuration's flat form.
+    /// The flat form of the running configuration.
     Flat,
-    /// What these handlers read, at most 256 of them.
+    /// Reads of these handlers, at most 256.
     Read {
         handlers: Sequence<Sequence<u8>>,
     },
-    /// That this handler is written with the text.
+    /// A write of the text to the handler.
     Write {
         handler: Sequence<u8>,
         text: Sequence<u8>,
@@ -24,20 +24,21 @@ pub enum PageRequest {
     Refused(RequestRefusal),
 }
 
-/// Why a request is refused.
+/// The reason why a request is refused.
 #[derive(Clone, Copy, Debug, PartialEq, Eq, thiserror::Error)]
 pub enum RequestRefusal {
-    /// Its Host, or its target, names another place: a page of somebody else's may have sent it.
+    /// Its Host or its target names another host. A page of another origin may have sent it.
     #[error("this page is at 127.0.0.1 alone")]
     Stranger,
     #[error("there is nothing of that name")]
     NoPlace,
     #[error("another method is wanted here")]
     WrongMethod,
-    /// It is to write, and lacks the header that no foreign page may send.
+    /// It is a write, and lacks the header that browsers do not let a page of another origin send.
     #[error("a write needs the header x-click-page")]
     NoMark,
-    /// Its query has something else than handlers, none of them, more than one of a write, or more than 256.
+    /// Its query has a parameter other than `handler`, no handler, more than one for a write, or
+    /// more than 256.
     #[error("the query names no handlers, or too many")]
     WrongQuery,
 }

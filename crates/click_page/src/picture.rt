@@ -12,7 +12,8 @@ use click_ports::{FaultKind as PortKind, Net, resolve};
 use click_router::{ConfigFault, prepare};
 use std::alloc::{AllocError, Global};
 
-/// The picture of the text's configuration as SVG, or the first fault that the configuration has.
+/// Returns the picture of the text's configuration, as SVG. Fails with the configuration's first
+/// fault, or with out of memory.
 pub fn picture_of(alloc: Global, text: &[u8]) -> Result<Vec<u8>, ConfigFault>
     ensures picture { IfOk result (λ picture. IsPicture text.now picture.items) }
     ensures fault { IfErr result (λ fault. IsMemoryOr fault (IsFirstFault text.now fault)) }
@@ -21,7 +22,7 @@ pub fn picture_of(alloc: Global, text: &[u8]) -> Result<Vec<u8>, ConfigFault>
     Ok(picture_in(alloc, &net)?)
 }
 
-/// The picture of a net of as many elements as a flat form may have.
+/// Returns the picture of a net, which has no more elements than a flat form can have.
 fn picture_in(alloc: Global, net: &Net) -> Result<Vec<u8>, AllocError>
     requires { length net.now.shapes ≤ 4096 }
     ensures { IfOk result (λ picture. IsPictureOf net.now picture.items) }
@@ -30,7 +31,8 @@ fn picture_in(alloc: Global, net: &Net) -> Result<Vec<u8>, AllocError>
     svg(alloc, &drawing)
 }
 
-/// The net of the text's configuration, or the first fault that the configuration has.
+/// Returns the net of the text's configuration. Fails with the configuration's first fault, or with
+/// out of memory.
 fn net_of(alloc: Global, text: &[u8]) -> Result<Net, ConfigFault>
     ensures net { IfOk result (IsNetOf text.now) }
     ensures few { IfOk result (λ net. length net.shapes ≤ 4096) }
@@ -40,7 +42,7 @@ fn net_of(alloc: Global, text: &[u8]) -> Result<Net, ConfigFault>
     Ok(resolved(alloc, prepared.flat())?)
 }
 
-/// The net of a flat form that opens.
+/// Returns the net of a flat form that satisfies the port rules.
 pub(crate) fn resolved(alloc: Global, flat: &Flat) -> Result<Net, AllocError>
     requires { IsLawfulForm flat.now }
     ensures { IfOk result (IsFormNet flat.now) }
@@ -49,12 +51,12 @@ pub(crate) fn resolved(alloc: Global, flat: &Flat) -> Result<Net, AllocError>
     match resolve(alloc, flat, states.as_slice()) {
         Ok(net) => Ok(net),
         Err(fault) if fault.kind == PortKind::NoMemory => Err(AllocError),
-        // The rules of ports hold: that was found when the text was prepared.
+        // By the precondition the flat form satisfies the port rules.
         Err(_) => unreachable!(),
     }
 }
 
-/// The first states of elements that have them.
+/// Returns the first states of the elements. Each element must have one.
 fn states_of(alloc: Global, elements: &[FlatElement]) -> Result<Vec<State>, AllocError>
     requires { (states : List State) × AreFresh elements.now states }
     ensures { IfOk result (λ states. AreFresh elements.now states.items) }
@@ -66,7 +68,7 @@ fn states_of(alloc: Global, elements: &[FlatElement]) -> Result<Vec<State>, Allo
     Ok(states)
 }
 
-/// The first state of an element that has one.
+/// Returns the first state of an element, which must have one.
 fn state_of(alloc: Global, element: &FlatElement) -> Result<State, AllocError>
     requires { (state : State) × IsBegun element.now (Ok state) }
     ensures { IfOk result (λ state. IsBegun element.now (Ok state)) }
@@ -74,12 +76,12 @@ fn state_of(alloc: Global, element: &FlatElement) -> Result<State, AllocError>
     match make(alloc, element.class, element.text.as_slice()) {
         Ok(state) => Ok(state),
         Err(fault) if fault == ArgFault::NoMemory => Err(AllocError),
-        // Its arguments are good: that was found then, too.
+        // By the precondition the element has a first state.
         Err(_) => unreachable!(),
     }
 }
 
-/// Adds a state at the end.
+/// Appends a state.
 fn push(states: &mut Vec<State>, state: State) -> Result<(), AllocError>
     ensures { OnOk result (states.new.items ≡ states.old.items ++ state ∷ []) }
 {

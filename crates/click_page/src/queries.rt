@@ -10,10 +10,10 @@ use click_base::sequence::Sequence;
 use form_urlencoded::{decode, raw_pairs};
 use std::alloc::{AllocError, Global};
 
-/// How many handlers may be read at once.
+/// The maximum number of handlers that a request reads.
 const MOST_READ: usize = 256;
 
-/// What a query asks to read.
+/// Returns what a query asks to read.
 pub(crate) fn read_of(alloc: Global, query: &[u8]) -> Result<PageRequest, AllocError>
     ensures { IfOk result (λ w. w ≡ read_of (raw_pairs query.now)) }
 {
@@ -25,7 +25,7 @@ pub(crate) fn read_of(alloc: Global, query: &[u8]) -> Result<PageRequest, AllocE
     }
 }
 
-/// What a query asks to write, with this text.
+/// Returns what a query asks to write, with this text.
 pub(crate) fn write_of(alloc: Global, query: &[u8], text: &[u8]) -> Result<PageRequest, AllocError>
     ensures { IfOk result (λ w. w ≡ write_of (raw_pairs query.now) text.now) }
 {
@@ -41,7 +41,7 @@ pub(crate) fn write_of(alloc: Global, query: &[u8], text: &[u8]) -> Result<PageR
     }
 }
 
-/// How many handlers a query has, where it has nothing else.
+/// Returns the number of handlers of a query, or `None` if it has a parameter of another name.
 fn handler_count(query: &[u8]) -> Option<usize>
     ensures { result ≡ (if are_handlers (raw_pairs query.now) then Some (length (raw_pairs query.now)) else None) }
 {
@@ -55,7 +55,7 @@ fn handler_count(query: &[u8]) -> Option<usize>
     Some(count)
 }
 
-/// The handlers that the values of a query name.
+/// Returns the handlers that the values of a query name.
 fn handlers_in(alloc: Global, query: &[u8]) -> Result<Vec<Sequence<u8>>, AllocError>
     ensures { IfOk result (λ handlers. handlers.items ≡ handlers_in (raw_pairs query.now)) }
 {
@@ -66,7 +66,7 @@ fn handlers_in(alloc: Global, query: &[u8]) -> Result<Vec<Sequence<u8>>, AllocEr
     Ok(handlers)
 }
 
-/// What a value stands for: what is not UTF-8 in it becomes U+FFFD.
+/// Decodes a value. Bytes that are not UTF-8 become U+FFFD.
 fn decoded(alloc: Global, value: &[u8]) -> Result<Sequence<u8>, AllocError>
     ensures { IfOk result (λ text. text ≡ utf8_lossy (decode value.now)) }
 {

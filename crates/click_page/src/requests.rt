@@ -1,4 +1,4 @@
-//! What a request of the page asks for.
+//! Parsing a request.
 
 ghost use Rattle.std.specs.Prelude.{◌≡◌, [], unwrap_or, IfOk};
 ghost use Rattle.http.specs.Request.{head_of, body_of};
@@ -14,7 +14,8 @@ use click_base::sequence::Sequence;
 use http::Request;
 use std::alloc::{AllocError, Global};
 
-/// What a request asks of the page at this port of 127.0.0.1. The only error is want of memory.
+/// Returns what a request asks of the page at this port of 127.0.0.1. Fails only with out of
+/// memory.
 #[tactic(auto, unfolding(crate::specs::Asking::parse_request))]
 pub fn parse_request(
     alloc: Global,
@@ -30,7 +31,8 @@ pub fn parse_request(
     }
 }
 
-/// What is asked of this page, at a place or at none.
+/// Returns what a request for this page's own host asks for. The route is `None` if its path is
+/// unknown.
 #[tactic(auto, unfolding(crate::specs::Asking::request_at))]
 fn request_at(
     alloc: Global,
@@ -52,7 +54,7 @@ fn request_at(
     request_on_route(alloc, route, request)
 }
 
-/// What is asked for at a place.
+/// Returns what a request for this route asks for.
 #[tactic(auto, unfolding(crate::specs::Asking::request_on_route))]
 fn request_on_route(
     alloc: Global,
@@ -74,7 +76,7 @@ fn request_on_route(
     }
 }
 
-/// The query of a request, which may be empty.
+/// Returns the query of a request. It may be empty.
 fn query_of(request: &Request<Bytes>) -> &[u8]
     ensures { result.now ≡ unwrap_or (uri_query (head_of request.now).uri) [] }
 {

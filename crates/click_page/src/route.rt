@@ -1,9 +1,9 @@
-//! The places of the page.
+//! The routes of the page.
 
 ghost use Rattle.std.specs.Prelude.{◌≡◌};
 ghost use Rattle.click_page.specs.Asking.{is_write, route_of};
 
-/// What stands at a path of the page.
+/// The route of a request, by its path.
 #[derive(Clone, Copy, Debug, PartialEq, Eq)]
 pub(crate) enum Route {
     Page,
@@ -14,7 +14,7 @@ pub(crate) enum Route {
     Swap,
 }
 
-/// The place that a path names.
+/// Returns the route of a path.
 #[tactic(auto, unfolding(crate::specs::Asking::route_of))]
 pub(crate) fn route_of(path: &str) -> Option<Route>
     ensures { result ≡ route_of path.now }
@@ -31,7 +31,7 @@ pub(crate) fn route_of(path: &str) -> Option<Route>
 }
 
 impl Route {
-    /// Whether a request there is to write.
+    /// Returns whether requests for this route write.
     pub(crate) fn is_write(self) -> bool
         ensures { result ≡ is_write self }
     {

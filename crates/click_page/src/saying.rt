@@ -1,4 +1,4 @@
-//! What a request is answered.
+//! The response to a request.
 
 ghost use Rattle.std.specs.Prelude.{◌≡◌, codes, false, length, MatchResult, OnOk};
 ghost use Rattle.serde_json.specs.View.{view};
@@ -27,7 +27,7 @@ use http_server::Response;
 use serde_json::Value;
 use std::alloc::{AllocError, Global};
 
-/// The status of a refusal.
+/// Returns the status of a refusal.
 fn status_of(why: RequestRefusal) -> StatusCode
     ensures { result ≡ status_of why }
 {
@@ -39,7 +39,7 @@ fn status_of(why: RequestRefusal) -> StatusCode
     }
 }
 
-/// The line of a refusal.
+/// Returns the line of a refusal.
 fn refusal_line(why: RequestRefusal) -> &'static [u8]
     ensures { result.now ≡ refusal_line why }
 {
@@ -52,7 +52,7 @@ fn refusal_line(why: RequestRefusal) -> &'static [u8]
     }
 }
 
-/// Says why a request is refused.
+/// Responds with a refusal.
 fn say_refusal(why: RequestRefusal, response: &mut Response) -> Result<(), AllocError>
     requires { IsBlank response.old }
     ensures { OnOk result (Says (status_of why) ContentKind.Text (refusal_line why) response.new) }
@@ -61,7 +61,7 @@ fn say_refusal(why: RequestRefusal, response: &mut Response) -> Result<(), Alloc
     say_bytes(status_of(why), ContentKind::Text, line, response)
 }
 
-/// Says a value, as JSON.
+/// Responds with a JSON value.
 fn say_value(alloc: Global, value: &Value, response: &mut Response) -> Result<(), AllocError>
     requires blank { IsBlank response.old }
     requires whole { has_float (view value.now) ≡ false }
@@ -70,7 +70,7 @@ fn say_value(alloc: Global, value: &Value, response: &mut Response) -> Result<()
     say_text(ContentKind::Json, json_text(alloc, value)?, response)
 }
 
-/// Says why a text opens nothing.
+/// Responds with the fault of a text.
 fn say_fault(alloc: Global, fault: &ConfigFault, response: &mut Response) -> Result<(), AllocError>
     requires { IsBlank response.old }
     ensures { OnOk result (Says 200 ContentKind.Json (compact_text (fault_data 520 (fault_text fault.now))) response.new) }
@@ -79,7 +79,7 @@ fn say_fault(alloc: Global, fault: &ConfigFault, response: &mut Response) -> Res
     say_value(alloc, &fault_entry(alloc, 520, text.as_slice())?, response)
 }
 
-/// Says what was made of a text, or why the text opens nothing.
+/// Responds with what was made of a text, or with the fault of the text.
 fn say_made(
     alloc: Global,
     kind: ContentKind,
@@ -97,7 +97,7 @@ fn say_made(
     }
 }
 
-/// Says why the text that runs was not read.
+/// Responds with the reason why the running configuration was not read.
 fn say_unread(alloc: Global, answer: &Answer, response: &mut Response) -> Result<(), AllocError>
     requires { IsBlank response.old }
     ensures { OnOk result (Says 200 ContentKind.Json (compact_text (entry_of (reading (codes "config")) answer.now)) response.new) }
@@ -105,7 +105,7 @@ fn say_unread(alloc: Global, answer: &Answer, response: &mut Response) -> Result
     say_value(alloc, &read_entry(alloc, b"config", answer)?, response)
 }
 
-/// Says the picture of the text that was read.
+/// Responds with the picture of the configuration that was read.
 fn say_picture(alloc: Global, answer: &Answer, response: &mut Response) -> Result<(), AllocError>
     requires { IsBlank response.old }
     ensures { OnOk result (SaysMade ContentKind.Svg IsPicture answer.now response.new) }
@@ -119,7 +119,7 @@ fn say_picture(alloc: Global, answer: &Answer, response: &mut Response) -> Resul
     }
 }
 
-/// Says the flat form of the text that was read.
+/// Responds with the flat form of the configuration that was read.
 fn say_flat(alloc: Global, answer: &Answer, response: &mut Response) -> Result<(), AllocError>
     requires { IsBlank response.old }
     ensures { OnOk result (SaysMade ContentKind.Json IsFlatText answer.now response.new) }
@@ -133,7 +133,8 @@ fn say_flat(alloc: Global, answer: &Answer, response: &mut Response) -> Result<(
     }
 }
 
-/// Answers a wish, the commands of which were answered so. After an error part of the response may be written.
+/// Responds to a request whose commands were answered in this way. After an error, part of the
+/// response may have been written.
 pub(crate) fn say(
     alloc: Global,
     page_request: &PageRequest,

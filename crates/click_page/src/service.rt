@@ -1,4 +1,4 @@
-//! A page as a service of HTTP.
+//! The page as an HTTP service.
 
 ghost use Rattle.std.specs.Prelude.{◌≡◌, ◌⊎◌, length};
 ghost use Rattle.http_server.specs.Response.{IsBlank};
@@ -16,7 +16,10 @@ use http_server::{Response, Service};
 use std::alloc::{AllocError, Global};
 use std::marker::Model;
 
-/// A page over a port, which answers its calls. Contracts see the port, whether the page may only read, and the port of 127.0.0.1 that it is at.
+/// A page that makes its calls through a port.
+///
+/// Contracts see this port, whether the page may only read, and the TCP port of 127.0.0.1 that it
+/// is at.
 #[derive(Drop)]
 pub struct Page<P> {
     alloc: Global,
@@ -34,7 +37,8 @@ impl<P> Model for Page<P> {
 }
 
 impl<P> Page<P> {
-    /// A page that is served at this port of 127.0.0.1. Where it may only read, it makes no call that writes.
+    /// Returns a page at this TCP port of 127.0.0.1. If it may only read, it makes no call that
+    /// writes.
     pub fn new(alloc: Global, port: P, readonly: bool, at: u16) -> Page<P>
         ensures { result ≡ record { port = port; readonly = readonly; at = at } }
     {
@@ -46,7 +50,7 @@ impl<P> Page<P> {
         }
     }
 
-    /// The port that answered its calls.
+    /// Returns the port through which the page made its calls.
     pub fn into_port(self) -> P
         ensures { result ≡ self.port }
     {
@@ -65,7 +69,7 @@ impl<P: Port> Service for Page<P> {
 
     ghost answers = { AnswersSo P.asks };
 
-    /// All memory that the calls take is taken before the first of them.
+    /// Allocates the memory for the calls before it makes the first one.
     fn call(
         &mut self,
         request: &Request<Bytes>,
@@ -80,7 +84,7 @@ impl<P: Port> Service for Page<P> {
     }
 }
 
-/// Tells the answers, or that memory ran out.
+/// Responds with the answers, or with status 503 if it runs out of memory.
 fn tell(alloc: Global, page_request: &PageRequest, answers: &[Answer], response: &mut Response)
     requires blank { IsBlank response.old }
     requires each { length answers.now ≡ length (commands_of page_request.now) }

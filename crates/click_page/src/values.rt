@@ -1,4 +1,4 @@
-//! Bytes as values of JSON, and values as texts.
+//! Bytes as JSON values, and JSON values as text.
 
 ghost use Rattle.std.specs.Prelude.{◌≡◌, ◌∷◌, [], ◌++◌, false, IfOk, OnOk};
 ghost use Rattle.serde_json.specs.View.{view};
@@ -8,7 +8,7 @@ ghost use Rattle.click_page.specs.Form.{bytes_data};
 use serde_json::Value;
 use std::alloc::{AllocError, Global};
 
-/// Bytes as a text of JSON: each byte is the character of its number.
+/// Converts bytes to a JSON string. Each byte becomes the character with its number.
 pub(crate) fn text_value(alloc: Global, bytes: &[u8]) -> Result<Value, AllocError>
     ensures { IfOk result (λ value. view value ≡ bytes_data bytes.now) }
 {
@@ -19,7 +19,7 @@ pub(crate) fn text_value(alloc: Global, bytes: &[u8]) -> Result<Value, AllocErro
     Ok(Value::from(text))
 }
 
-/// The text of a value that has no float.
+/// Returns the text of a JSON value, which has no floating-point number.
 pub(crate) fn json_text(alloc: Global, value: &Value) -> Result<Vec<u8>, AllocError>
     requires { has_float (view value.now) ≡ false }
     ensures { IfOk result (λ text. text.items ≡ compact_text (view value.now)) }
@@ -27,7 +27,7 @@ pub(crate) fn json_text(alloc: Global, value: &Value) -> Result<Vec<u8>, AllocEr
     Ok(value.to_string(alloc)?.into_bytes())
 }
 
-/// Adds a value at the end.
+/// Appends a value.
 pub(crate) fn push(values: &mut Vec<Value>, value: Value) -> Result<(), AllocError>
     ensures { OnOk result (values.new.items ≡ values.old.items ++ value ∷ []) }
 {

@@ -15,7 +15,7 @@ use Rattle.std.proofs.lemmas.List.Elements.{Contains-get_or}
 use Rattle.click_ports.proofs.PortNumbers.{number-same, same_port}
 use Rattle.click_ports.proofs.PortUses.{has-end}
 
--- so many empty rows
+-- n empty rows
 pub replicate-push : {X : Type 0} (n : ℕ) (a : X) → replicate (n + 1) a ≡ replicate n a ++ a ∷ []
 replicate-push n a = sym (replicate-append-replicate n 1 a)
 
@@ -23,7 +23,7 @@ end-side : (s : Side) (c : Connection) → (joined_port s c).side ≡ s
 end-side Input c = refl
 end-side Output c = refl
 
--- a connection joins a port that is its end
+-- a connection joins the port at its end
 pub joins-end : (p : Port) (c : Connection) → p ≡ joined_port p.side c → joins p c ≡ true
 joins-end p c h =
     let a : nat_eq (joined_port p.side c).element p.element ≡ true = let e : p.element ≡ (joined_port p.side c).element = ap (λ (q : Port). q.element) h in grind (arith, nat_tests) in
@@ -48,7 +48,7 @@ bool_false true h = absurd (h refl)
 pub joins-not : (p : Port) (c : Connection) → (p ≡ joined_port p.side c → ⊥) → joins p c ≡ false
 joins-not p c h = bool_false (joins p c) (λ t. h (joins-is p c t))
 
--- what one more connection adds to a port's row
+-- one more connection in the row of a port
 pub far_ends-push : (cs some : List Connection) (c : Connection) (p : Port) → far_ends cs (some ++ c ∷ []) p ≡ far_ends cs some p ++ cond (joins p c) (far_end cs p c ∷ []) []
 far_ends-push cs [] c p = by (joins p c)
   where
@@ -64,7 +64,7 @@ far_ends-push cs (d ∷ some) c p = by (joins p d) (far_end cs p d) (far_ends cs
 grown-same : (rows : List (List ℕ)) (x y z : ℕ) → x < length rows → z ≡ x → get_or (set rows x (get_or rows x [] ++ y ∷ [])) z [] ≡ get_or rows z [] ++ y ∷ []
 grown-same rows x y z l h = ap (λ k. get_or (set rows x (get_or rows x [] ++ y ∷ [])) k []) h ∙ get_or-set_same rows x _ [] l ∙ ap (λ k. get_or rows k [] ++ y ∷ []) (sym h)
 
--- the rows of some of the connections
+-- the rows of the first connections
 pub record AreEndsOf (w : Wiring) (some : List Connection) (rows : List (List ℕ)) : Type 0 where
   pub all : length rows ≡ first w.connections (length w.shapes)
   pub right : (p : Port) → Has w.connections p → get_or rows (port_index w.connections p) [] ≡ far_ends w.connections some p
@@ -160,7 +160,7 @@ ends-none w rows h = record {
     all_empty (suc n) zero = refl
     all_empty (suc n) (suc i) = all_empty n i
 
--- a connection that is read has its ends
+-- the ends of a connection exist
 pub end-has : (cs xs : List Connection) (i : ℕ) (d : Connection) (s : Side) (p : Port) → xs ≡ cs → i < length xs → p ≡ joined_port s (get_or xs i d) → Has cs p
 end-has cs xs i d s p h l is =
     subst (λ (q : Port). Has cs q) (sym is)

@@ -1,4 +1,4 @@
--- Which breach is the first.
+-- The first breach.
 use Rattle.std.proofs.Common.{◌≡◌, inl, inr, ℕ, ◌+◌, ◌<◌, ◌≤◌, List, [], ◌∷◌, length, get_or, Bool, true, false, Some, cond, refl, sym, ap, ◌∙◌, subst, arith}
 use Rattle.std.specs.List.{slice_get}
 use Rattle.std.proofs.lemmas.List.{get_or_default}
@@ -30,7 +30,7 @@ counted-right c i o s k (inputs_out h) = h k.inputs_in
 counted-right c i o s k (outputs_out a h) = h k.outputs_in
 counted-right c i o s k (unequal a b e h) = h (k.equal e)
 
--- numbers that are not allowed are found at one side
+-- numbers that are not allowed are found at one side only
 pub one-side : (c : Counts) (i o : ℕ) (s t : Side) → IsMiscounted c i o s → IsMiscounted c i o t → s ≡ t
 one-side c i o s t (inputs_out h) (inputs_out g) = refl
 one-side c i o s t (inputs_out h) (outputs_out a g) = absurd (h a)
@@ -47,7 +47,7 @@ not_before p (inl l) = omega (arith, l)
 not_before p (inr (e, inl l)) = omega (arith, l)
 not_before p (inr (e, inr (s, l))) = omega (arith, l)
 
--- no breach stands before the first element whose numbers are not allowed
+-- no breach comes before the first element whose numbers are not allowed
 pub first-count : (ss : List Shape) (cs : List Connection) (e : ℕ) (shape : Shape) (s : Side) → slice_get ss e ≡ Some shape → IsMiscounted shape.counts (used cs e Input) (used cs e Output) s →
     ((d : ℕ) (t : Shape) → d < e → slice_get ss d ≡ Some t → IsCounted t.counts (used cs d Input) (used cs d Output)) → IsFirstBreach ss cs (count_fault cs e s)
 first-count ss cs e shape s h m front = record { breach = count e shape s h m; first = none }
@@ -72,7 +72,7 @@ first-count ss cs e shape s h m front = record { breach = count e shape s h m; f
     none g (twice p k n o) (inl l) = omega (arith, l)
     none g (twice p k n o) (inr (a, l)) = cc a
 
--- the elements before a place have allowed numbers
+-- the elements with lower indices have allowed numbers
 abbrev pub CountedBelow : List Shape → List Connection → ℕ → Type 0
 CountedBelow ss cs e = (d : ℕ) (t : Shape) → d < e → slice_get ss d ≡ Some t → IsCounted t.counts (used cs d Input) (used cs d Output)
 
@@ -101,7 +101,7 @@ module _ (ss : List Shape) (cs : List Connection) (counted : AllCounted ss cs) w
   no_count : (e : ℕ) (t : Shape) (s : Side) → slice_get ss e ≡ Some t → IsMiscounted t.counts (used cs e Input) (used cs e Output) s → ⊥
   no_count e t s h m = counted-right t.counts (used cs e Input) (used cs e Output) s (counted e t h) m
 
-  -- no breach stands before the first port without a connection
+  -- no breach comes before the first port without a connection
   pub first-unused : (p : Port) → Has cs p → uses cs p ≡ 0 → ((q : Port) → Has cs q → port_index cs q < port_index cs p → 0 < uses cs q) → IsFirstBreach ss cs (fault_at kind.Unused p)
   first-unused p h z front = record { breach = unused p h z; first = none }
     where
@@ -118,7 +118,7 @@ module _ (ss : List Shape) (cs : List Connection) (counted : AllCounted ss cs) w
     no_unused : (q : Port) → Has cs q → uses cs q ≡ 0 → ⊥
     no_unused q h z = let c = connected q h in omega (arith, c, z)
 
-    -- none before the first mixed port
+    -- no breach comes before the first mixed port
     pub first-mixed : (p : Port) → Has cs p → IsMixed ss cs p → ((q : Port) → Has cs q → port_index cs q < port_index cs p → IsMixed ss cs q → ⊥) → IsFirstBreach ss cs (fault_at kind.Mixed p)
     first-mixed p h m front = record { breach = mixed p h m; first = none }
       where
@@ -130,7 +130,7 @@ module _ (ss : List Shape) (cs : List Connection) (counted : AllCounted ss cs) w
         none g (twice q k n o) (inl l) = omega (arith, l)
         none g (twice q k n o) (inr (a, l)) = cc a
 
-    -- none before the first port that is connected twice
+    -- no breach comes before the first port with two connections
     pub first-twice : NoneMixed ss cs → (p : Port) → Has cs p → IsSingle ss cs p → 1 < uses cs p →
         ((q : Port) → Has cs q → port_index cs q < port_index cs p → IsSingle ss cs q → 1 < uses cs q → ⊥) → IsFirstBreach ss cs (fault_at kind.Twice p)
     first-twice unmixed p h s m front = record { breach = twice p h s m; first = none }
@@ -142,7 +142,7 @@ module _ (ss : List Shape) (cs : List Connection) (counted : AllCounted ss cs) w
         none g (twice q k n o) (inl l) = omega (arith, l)
         none g (twice q k n o) (inr (a, l)) = front q k (number-before cs q p k l) n o
 
-    -- a port that is not connected twice is connected once
+    -- a port that does not have two connections has one
     pub all-single : ((q : Port) → Has cs q → IsSingle ss cs q → 1 < uses cs q → ⊥) → AllSingle ss cs
     all-single h p k s = elim (cases_lt 1 (uses cs p)) [
       | inl l ↦ absurd (h p k s l)
@@ -157,7 +157,7 @@ length_by false n row = refl
 pub length-far_ends : (cs : List Connection) (p : Port) → length (far_ends cs cs p) ≡ uses cs p
 length-far_ends cs p = is_count_by (λ some. length (far_ends cs some p)) (joins p) refl (λ c some. length_by (joins p c) (far_end cs p c) (far_ends cs some p)) cs
 
--- what holds of the port at a place and of those below it, holds of those below the next
+-- what holds of the port with number n, and of those below it, holds of those below n + 1
 pub next-port : (cs : List Connection) (p : Port) (n : ℕ) (P : Port → Type 0) → Has cs p → port_index cs p ≡ n → P p → ((q : Port) → Has cs q → port_index cs q < n → P q) → (q : Port) → Has cs q → port_index cs q < n + 1 → P q
 next-port cs p n P h e here front q k l = elim (cases_lt (port_index cs q) n) [
   | inl b ↦ front q k b
@@ -169,13 +169,13 @@ pub all-ports : (w : Wiring) (n : ℕ) (P : Port → Type 0) → AreWithin (leng
 all-ports w n P i l h q k =
     h q k (let b = number-within w.connections (length w.shapes) q k (has-within (length w.shapes) w.connections q i k) in omega (arith, b, l))
 
--- a row that is read at a port's number
+-- the row at a port's number
 pub uses-read : (w : Wiring) (ends : List (List ℕ)) (p : Port) (n len : ℕ) (row : List ℕ) → AreFarEnds w ends → Has w.connections p → port_index w.connections p ≡ n → n < length ends → row ≡ get_or ends n row → len ≡ length row →
     len ≡ uses w.connections p
 uses-read w ends p n len row e h is l r q =
     q ∙ ap length (r ∙ get_or_default ends n row [] l ∙ ap (λ i. get_or ends i []) (sym is) ∙ e.right p h) ∙ length-far_ends w.connections p
 
--- a mark that is read at a port's number
+-- the mark at a port's number
 pub mark-read : (marks : List Bool) (n i : ℕ) (b : Bool) → i ≡ n → n < length marks → b ≡ get_or marks n b → get_or marks i false ≡ b
 mark-read marks n i b e l r = ap (λ x. get_or marks x false) e ∙ get_or_default marks n false b l ∙ sym r
 

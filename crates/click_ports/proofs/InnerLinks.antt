@@ -21,7 +21,7 @@ use Rattle.click_ports.specs.kept.Wiring.{Wiring, port_index, first, AreWithin, 
 use Rattle.click_ports.proofs.PortNumbers.{number-same, number-within}
 use Rattle.click_ports.proofs.PortUses.{has-within}
 
--- the links to the ports below a number
+-- the links to ports with lower numbers
 pub record IsRowBelow (w : Wiring) (p : Port) (below : ℕ) (row : List ℕ) : Type 0 where
   pub sound : (y : ℕ) → Contains row y → (n : ℕ) × Crosses w.shapes w.connections p n × (port_index w.connections (across p n) ≡ y)
   pub complete : (n : ℕ) → n < below → Crosses w.shapes w.connections p n → Contains row (port_index w.connections (across p n))
@@ -58,12 +58,12 @@ row-same w p n row c k = record {
 pub row-all : (w : Wiring) (p : Port) (to : ℕ) (row : List ℕ) → ((n : ℕ) → Crosses w.shapes w.connections p n → n < to) → IsRowBelow w p to row → IsRow w p row
 row-all w p to row h k = record { sound = k.sound; complete = λ n c. k.complete n (h n c) c }
 
--- what holds of the numbers that pass in both directions, holds of those that pass between the sides
+-- what holds if packets pass in either direction holds if they pass between the sides
 pub between : (c : Class) (s : Side) (i n : ℕ) {P : Type 0} → (passes c i n ≡ true → P) → (passes c n i ≡ true → P) → passes_between c s i n ≡ true → P
 between c Input i n f g h = f h
 between c Output i n f g h = g h
 
--- a link goes to a number between the bounds that hold for all that pass
+-- a link goes to a number within the bounds
 pub crosses-in : (w : Wiring) (p : Port) (side : Side) (class : Class) (count from to n : ℕ) → side ≡ opposite p.side → class ≡ class_at w.shapes p.element → count ≡ used w.connections p.element side →
     ((m : ℕ) → m < count → passes class p.number m ≡ true → (from ≤ m) × (m < to)) → ((m : ℕ) → m < count → passes class m p.number ≡ true → (from ≤ m) × (m < to)) →
     Crosses w.shapes w.connections p n → (from ≤ n) × (n < to)
@@ -91,7 +91,7 @@ passes-across w p class n b k = ap (λ x. passes_between x p.side p.number n) b 
 pub agnostic-across : (w : Wiring) (p : Port) (side : Side) (n : ℕ) → side ≡ opposite p.side → Crosses w.shapes w.connections p n → IsAgnostic w.shapes (record { element = p.element; side = side; number = n })
 agnostic-across w p side n a k = subst (λ s. IsAgnostic w.shapes (record { element = p.element; side = s; number = n })) (sym a) k.agnostic_there
 
--- the rows of the ports whose numbers are below one
+-- the rows of the ports with lower numbers
 pub record AreRowsBelow (w : Wiring) (below : ℕ) (rows : List (List ℕ)) : Type 0 where
   pub all : length rows ≡ below
   pub right : (p : Port) → Has w.connections p → port_index w.connections p < below → IsRow w p (get_or rows (port_index w.connections p) [])
@@ -99,7 +99,7 @@ pub record AreRowsBelow (w : Wiring) (below : ℕ) (rows : List (List ℕ)) : Ty
 pub rows-none : (w : Wiring) → AreRowsBelow w 0 []
 rows-none w = record { all = refl; right = λ p h l. absurd (omega (arith, l)) }
 
--- what is read at a port's place in a list with one more
+-- the item at an index of a list with one more item
 pub read-more : {X : Type 0} (xs : List X) (x d : X) (n i : ℕ) (P : X → Type 0) → length xs ≡ n → i < n + 1 → (i < n → P (get_or xs i d)) → (i ≡ n → P x) → P (get_or (xs ++ x ∷ []) i d)
 read-more xs x d n i P l b old new = elim (cases_lt i n) [
   | inl a ↦ subst P (sym (get_or_append_left xs (x ∷ []) d i (omega (arith, a, l)))) (old a)
@@ -120,7 +120,7 @@ rows-all w n rows i e k = record {
   right = λ p h. k.right p h (let b = number-within w.connections (length w.shapes) p h (has-within (length w.shapes) w.connections p i h) in omega (arith, b, e));
 }
 
--- the codes of the ports whose numbers are below one
+-- the codes of the ports with lower numbers
 pub record AreCodesBelow (w : Wiring) (below : ℕ) (codes : List Code) : Type 0 where
   pub all : length codes ≡ below
   pub right : (p : Port) → Has w.connections p → port_index w.connections p < below → code_of codes (port_index w.connections p) ≡ code_at w.shapes p
@@ -142,6 +142,6 @@ codes-all w n codes i e k = record {
   right = λ p h. k.right p h (let b = number-within w.connections (length w.shapes) p h (has-within (length w.shapes) w.connections p i h) in omega (arith, b, e));
 }
 
--- a port that is read at a place is there, with that number
+-- the port at an index exists, and has that number
 pub read-place : (cs : List Connection) (ports : List Port) (i : ℕ) (d : Port) → InPlace cs ports → i < length ports → Has cs (get_or ports i d) × (port_index cs (get_or ports i d) ≡ i)
 read-place cs ports i d k l = k i (get_or ports i d) (slice_get-get_or ports i d l)

@@ -22,7 +22,7 @@ use Rattle.click_ports.proofs.FirstBreach.{counted-right}
 use Rattle.click_ports.proofs.PortNumbers.{same_port}
 use Rattle.click_ports.proofs.PortUses.{has-end, reason}
 
--- what two linked ports reach
+-- two linked ports reach the same kinds
 across-link : (ss : List Shape) (cs : List Connection) (p q : Port) (c : Code) → Lawful ss cs → Linked ss cs p q → code_at ss p ≡ c → IsPull ss cs p → IsPull ss cs q
 across-link ss cs p q Agnostic k l e (r, t, i) = (r, further q p r (linked-back ss cs p q l) e t, i)
 across-link ss cs p q Pull k l e m =
@@ -37,7 +37,7 @@ linked-agree ss cs p q k l m = across-link ss cs p q (code_at ss p) k l refl m
 pub agree : (ss : List Shape) (cs : List Connection) (c : Connection) → Lawful ss cs → Contains cs c → IsPull ss cs (joined_port Output c) ↔ IsPull ss cs (joined_port Input c)
 agree ss cs c k h = (linked-agree ss cs (joined_port Output c) (joined_port Input c) k (along c h), linked-agree ss cs (joined_port Input c) (joined_port Output c) k (against c h))
 
--- the same ports are there by the same connections
+-- two lists with the same connections have the same ports
 has-same : (cs ds : List Connection) → ((c : Connection) → Contains cs c → Contains ds c) → (p : Port) → Has cs p → Has ds p
 has-same cs ds f p h =
     let r = reason cs p h in
@@ -84,7 +84,7 @@ module _ (ss : List Shape) (cs : List Connection) (ring : Port → Bool) (agnost
   pub ring-push : (p : Port) → ring p ≡ true → IsPush ss cs p
   ring-push p t m = reaches-none p m.0 m.1 t
 
--- of two breaches one stands before the other, or they are one
+-- of two breaches one comes before the other, or they are the same
 three : (p q : Port) → PortBefore p q ⊎ (PortBefore q p ⊎ (p ≡ q))
 three p q = elim (cases_order p.element q.element) [
   | inr (inl l) ↦ inl (inl l)

@@ -48,7 +48,7 @@ number-onto cs (suc n) x h = elim (cases_lt x (first cs n)) [
   ]
 ]
 
--- a connection of the port by the number of its other end
+-- a connection of the port, by the number of its other end
 pub record FarEnd (cs some : List Connection) (p : Port) (y : ℕ) : Type 0 where
   pub by : Connection
   pub there : Contains some by
@@ -93,7 +93,7 @@ far-has cs (d ∷ some) p c k h = elim (contains-cases d some c k) [
   | inr a ↦ kept_by (joins p d) (far_end cs p d) (far_ends cs some p) (far_end cs p c) (far-has cs some p c a h)
 ]
 
--- the port at the other end of a connection
+-- a port is linked with the other end of its connection
 end_linked : (ss : List Shape) (cs : List Connection) (p : Port) (s : Side) (c : Connection) → Contains cs c → p ≡ joined_port s c → Linked ss cs p (joined_port (opposite s) c)
 end_linked ss cs p Input c h e = subst (λ x. Linked ss cs x (joined_port Output c)) (sym e) (against c h)
 end_linked ss cs p Output c h e = subst (λ x. Linked ss cs x (joined_port Input c)) (sym e) (along c h)
@@ -110,7 +110,7 @@ module _ (w : Wiring) (codes : List Code) (ends inside : List (List ℕ)) (in_ra
       let b = number-within w.connections (length w.shapes) p h (has-within (length w.shapes) w.connections p in_range h) in
       omega (arith, b, are_codes.all)
 
-  -- a port that another's rows have
+  -- a port in the rows of another
   next_port : (p : Port) (y : ℕ) → Has w.connections p → IsNext ends inside (port_index w.connections p) y → (q : Port) × Has w.connections q × (port_index w.connections q ≡ y) × Linked w.shapes w.connections p q
   next_port p y h (inl k) =
       let f = far-is w.connections w.connections p y (subst (λ r. Contains r y) (are_ends.right p h) k) in
@@ -157,7 +157,7 @@ module _ (w : Wiring) (codes : List Code) (ends inside : List (List ℕ)) (in_ra
     spreads_in z (begins x l e) = l
     spreads_in z (goes_on x y s o n) = next_in x y n
 
-    -- a port to which the marks spread reaches one of the code
+    -- a port to which the marks spread reaches a port with the code
     meets_from : (x : ℕ) (p : Port) → Spreads codes ends inside k x → Has w.connections p → port_index w.connections p ≡ x → Meets w.shapes w.connections k p
     meets_from z p (begins x l e) h is =
         let c : code_at w.shapes p ≡ k = sym (are_codes.right p h) ∙ ap (code_of codes) is ∙ e in
@@ -184,7 +184,7 @@ module _ (w : Wiring) (codes : List Code) (ends inside : List (List ℕ)) (in_ra
         let g : Has w.connections b = linked-has w.shapes w.connections b a (linked-back w.shapes w.connections a b l) in
         goes_on (port_index w.connections b) (port_index w.connections a) (spreads_from b d rest c g) (inr (are_codes.right b g ∙ f)) (port_next b a (linked-back w.shapes w.connections a b l))
 
-    -- the marks are those of the ports that reach one of the code
+    -- the marked ports are those that reach a port with the code
     pub marks-meet : (marks : List Bool) → AreMarked codes ends inside k marks → AreMarks w k marks
     marks-meet marks m = record {
       all = m.sized ∙ are_codes.all;

@@ -1,11 +1,11 @@
--- Names that are written one after the other.
+-- Names that are written one after another.
 use Rattle.std.proofs.Common.{◌≡◌, ℕ, ◌≤◌, ◌-◌, List, [], ◌∷◌, ◌++◌, length, take, drop, map, All, refl, sym, ap, ◌∙◌, arith}
 use Rattle.std.proofs.lemmas.List.{map_push, length-append, length-drop, take_all, drop_all, take-append-le, drop-append-le}
 use Rattle.std.proofs.lemmas.List.Elements.{All-head, All-tail, All-push}
 use Rattle.click_ports.specs.declared.name_table.NamePlace.{NamePlace}
 use Rattle.click_ports.specs.kept.NameTables.{name_within, IsWithin}
 
--- a name stays where bytes are added
+-- a name is unchanged when bytes are appended
 name-kept : (bytes more : List ℕ) (p : NamePlace) → IsWithin (length bytes) p → name_within (bytes ++ more) p ≡ name_within bytes p
 name-kept bytes more p h =
     let o = h.ordered in let w = h.within in
@@ -18,7 +18,7 @@ names-kept bytes more (p ∷ ps) h =
     ap (λ n. n ∷ map (name_within (bytes ++ more)) ps) (name-kept bytes more p (All-head (IsWithin (length bytes)) p ps h))
     ∙ ap (λ ns. name_within bytes p ∷ ns) (names-kept bytes more ps (All-tail (IsWithin (length bytes)) p ps h))
 
--- the name that was added
+-- the name that was appended
 name-last : (bytes name : List ℕ) (end : ℕ) → end ≡ length (bytes ++ name) → name_within (bytes ++ name) (record { start = length bytes; end = end }) ≡ name
 name-last bytes name end e =
     ap (λ x. take (end - length bytes) x) (drop-append-le (length bytes) bytes name (omega arith) ∙ ap (λ x. x ++ name) (drop_all (length bytes) bytes (omega arith)))

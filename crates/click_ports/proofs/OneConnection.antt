@@ -1,4 +1,4 @@
--- A port's connection, and that a push output and a pull input have one alone.
+-- Each port has a connection, and a push output or a pull input has exactly one.
 use Rattle.std.proofs.Common.{◌≡◌, ℕ, zero, suc, ◌+◌, ◌<◌, List, [], ◌∷◌, Bool, true, false, cond, ◌&&◌, count_by, Contains, refl, sym, ap, ◌∙◌, arith}
 use Rattle.std.specs.Prelude.{nat_eq}
 use Rattle.std.proofs.lemmas.Bool.Decides.{nat_tests}
@@ -18,13 +18,13 @@ module _ {X : Type 0} (p : X → Bool) where
   one_more : (x : X) (xs : List X) → p x ≡ true → count_by p (x ∷ xs) ≡ 1 + count_by p xs
   one_more x xs t = sum_by-cons (λ y. cond (p y) 1 0) x xs ∙ ap (λ b. cond b 1 0 + count_by p xs) t
 
-  -- what passes the test is counted
+  -- an item that passes the test is counted
   counted : (xs : List X) (x : X) → Contains xs x → p x ≡ true → 0 < count_by p xs
   counted [] x (k, l, e) t = absurd (omega (arith, l))
   counted (y ∷ ys) x (zero, l, e) t = omega (arith, one_more y ys (ap p e ∙ t))
   counted (y ∷ ys) x (suc k, l, e) t = omega (arith, sum_by-cons (λ z. cond (p z) 1 0) y ys, counted ys x (k, omega (arith, l), e) t)
 
-  -- what is counted passes the test
+  -- if the count is positive, some item passes the test
   passing : (xs : List X) → 0 < count_by p xs → (x : X) × Contains xs x × (p x ≡ true)
   passing [] h = absurd (omega (arith, h))
   passing (y ∷ ys) h = go (p y) refl (passing ys)
@@ -36,7 +36,7 @@ module _ {X : Type 0} (p : X → Bool) where
           let (x, c, u) = rest (omega (arith, fewer, h)) in
           (x, (suc c.0, omega (arith, c.1), c.2), u)
 
-  -- where one passes, two that pass are one
+  -- if exactly one item passes the test, two that pass are the same
   alone : (xs : List X) → count_by p xs ≡ 1 → (x y : X) → Contains xs x → Contains xs y → p x ≡ true → p y ≡ true → x ≡ y
   alone [] h x y (k, l, e) c t u = absurd (omega (arith, l))
   alone (z ∷ zs) h x y (zero, l, e) (zero, m, f) t u = sym e ∙ f
@@ -69,7 +69,7 @@ on_side Output c = refl
 joins-joined : (p : Port) (c : Connection) → joins p c ≡ true → joined_port p.side c ≡ p
 joins-joined p c t = let both = equal_both _ _ _ _ t in same_port (joined_port p.side c) p both.0 (on_side p.side c) both.1
 
--- a port that has a connection alone has one alone
+-- two connections of a port that must have exactly one are the same
 one_alone : (ss : List Shape) (cs : List Connection) (p : Port) (c d : Connection) → Lawful ss cs → Has cs p → IsSingle ss cs p → Contains cs c → Contains cs d → joined_port p.side c ≡ p → joined_port p.side d ≡ p → c ≡ d
 one_alone ss cs p c d k h s a b e f = alone (joins p) cs (k.single p h s) c d a b (joined-joins p c e) (joined-joins p d f)
 

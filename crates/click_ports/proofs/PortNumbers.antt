@@ -17,7 +17,7 @@ use Rattle.click_ports.specs.kept.Numbered.{side_ports}
 use Rattle.click_ports.specs.kept.Wiring.{Wiring, first, ahead, ahead_in, count_in, port_index, block_of, InPlace, AreNumbered}
 use Rattle.click_ports.proofs.PortUses.{has-within}
 
--- what is at a place of a list with one more
+-- the item at an index of a list with one more item
 pub push_get : {X : Type 0} (xs : List X) (y : X) (x : ℕ) (q : X) → slice_get (xs ++ y ∷ []) x ≡ Some q → (slice_get xs x ≡ Some q) ⊎ ((x ≡ length xs) × (q ≡ y))
 push_get [] y zero q h = inr (refl, sym (same_Some y q h))
 push_get [] y (suc x) q h = absurd (none-some q h)
@@ -30,7 +30,7 @@ place-push cs ports p k has is x q h = elim (push_get ports p x q h) [
   | inr e ↦ subst (λ (r : Port). Has cs r × (port_index cs r ≡ x)) (sym e.1) (has, is ∙ sym e.0)
 ]
 
--- so many ports of a side, after those that stand before them
+-- n ports of a side, after those before them
 pub place-side : (cs : List Connection) (ports : List Port) (e : ℕ) (s : Side) (n : ℕ) → InPlace cs ports → length ports ≡ first cs e + ahead cs e s → n ≤ used cs e s →
     InPlace cs (ports ++ side_ports e s n) × (length (ports ++ side_ports e s n) ≡ first cs e + ahead cs e s + n)
 place-side cs ports e s zero k l m = (λ x q h. k x q (subst (λ xs. slice_get xs x ≡ Some q) (append-nil ports) h), ap length (append-nil ports) ∙ l ∙ sym (add-zero _))
@@ -72,7 +72,7 @@ numbered-more cs e i o blocks ports k p q m n =
         ◌≡◌ {A = Block} (record { first = f; inputs = i; outputs = o }) (block_of cs e)
     block_same cs e f i o r p q = cc
 
--- the same of the lists that were made so
+-- one more element, for the lists that the code makes
 pub numbered-made : (cs : List Connection) (e i o f : ℕ) (blocks made : List Block) (ports some all : List Port) → AreNumbered cs e blocks ports → i ≡ used cs e Input → o ≡ used cs e Output → i ≤ 256 → o ≤ 256 →
     f ≡ length ports → made ≡ blocks ++ record { first = f; inputs = i; outputs = o } ∷ [] → some ≡ ports ++ side_ports e Input i → all ≡ some ++ side_ports e Output o →
     AreNumbered cs (e + 1) made all
@@ -95,14 +95,14 @@ number-ends : (cs : List Connection) (e : ℕ) (s : Side) (k : ℕ) → k < used
 number-ends cs e Input k h = omega (arith, h)
 number-ends cs e Output k h = omega (arith, h)
 
--- a port's number is below that of all ports of the elements that are there
+-- the number of a port is below the number of all ports of the elements
 pub number-within : (cs : List Connection) (n : ℕ) (p : Port) → Has cs p → p.element < n → port_index cs p < first cs n
 number-within cs n p h l =
     let a : port_index cs p < first cs (suc p.element) = number-ends cs p.element p.side p.number h in
     let b : first cs (suc p.element) ≤ first cs n = first-le cs (suc p.element) n (omega (arith, l)) in
     omega (arith, a, b)
 
--- the numbers of a lower element's ports are lower
+-- the ports of an earlier element have lower numbers
 number-apart : (cs : List Connection) (p q : Port) → Has cs p → p.element < q.element → port_index cs p < port_index cs q
 number-apart cs p q h l = let a : port_index cs p < first cs q.element = number-within cs q.element p h l in omega (arith, a)
 
@@ -117,7 +117,7 @@ same_port p q a b d =
     let made : ℕ → Side → ℕ → Port = λ e s n. record { element = e; side = s; number = n } in
     ap (λ e. made e p.side p.number) a ∙ ap (λ s. made q.element s p.number) b ∙ ap (λ n. made q.element q.side n) d
 
--- ports of one number are one
+-- ports with the same number are the same
 pub number-same : (cs : List Connection) (p q : Port) → Has cs p → Has cs q → port_index cs p ≡ port_index cs q → p ≡ q
 number-same cs p q h k same = elim (cases_order p.element q.element) [
   | inl e ↦ (
@@ -134,7 +134,7 @@ side_before cs e Input Input k l h r = absurd (omega (arith, r))
 side_before cs e Output Input k l h r = absurd (omega (arith, r))
 side_before cs e Output Output k l h r = absurd (omega (arith, r))
 
--- a port that stands before another has a lower number
+-- a port that comes before another has a lower number
 pub number-before : (cs : List Connection) (p q : Port) → Has cs p → PortBefore p q → port_index cs p < port_index cs q
 number-before cs p q h (inl l) = number-apart cs p q h l
 number-before cs p q h (inr (e, inl l)) =
@@ -154,7 +154,7 @@ count-block cs e b Output h = ap (λ (x : Block). x.outputs) h
 pub place_number : (cs : List Connection) (b : Block) (p : Port) (a : ℕ) → b ≡ block_of cs p.element → a ≡ ahead_in b p.side → b.first + a + p.number ≡ port_index cs p
 place_number cs b p a h k = ap (λ x. b.first + x + p.number) (k ∙ ahead-block cs p.element b p.side h) ∙ ap (λ (x : Block). x.first + ahead cs p.element p.side + p.number) h
 
--- what a layout keeps, of what it is seen as
+-- the invariant of a layout, for its value in contracts
 pub laid-seen : (w : Wiring) (ss : List Shape) (cs : List Connection) (blocks : List Block) (ports : List Port) → ◌≡◌ {A = Wiring} (record { shapes = ss; connections = cs }) w →
     IsLaidOut ss cs blocks ports → IsLaidOut w.shapes w.connections blocks ports
 laid-seen w ss cs blocks ports h k = subst (λ (v : Wiring). IsLaidOut v.shapes v.connections blocks ports) h k

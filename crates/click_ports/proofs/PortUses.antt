@@ -1,4 +1,4 @@
--- How many ports are used, by the connections.
+-- The numbers of used ports, from the connections.
 use Rattle.std.proofs.Common.{◌≡◌, ◌≢◌, ◌⊎◌, inl, inr, ℕ, ◌+◌, ◌<◌, ◌≤◌, max, suc, List, [], ◌∷◌, ◌++◌, length, get_or, set, Bool, true, false, cond, refl, sym, ap, ◌∙◌, subst, Contains, arith}
 use Rattle.std.specs.Prelude.{nat_eq}
 use Rattle.std.proofs.lemmas.List.Recursion.{max_bounds, max_push}
@@ -23,7 +23,7 @@ past-here e s c h = let t : nat_eq (joined_port s c).element e ≡ true = grind 
 pub past-other : (e : ℕ) (s : Side) (c : Connection) → ((joined_port s c).element ≡ e → ⊥) → past e s c ≡ 0
 past-other e s c h = let t : nat_eq (joined_port s c).element e ≡ false = grind (arith, nat_tests) in ap (λ b. cond b ((joined_port s c).number + 1) 0) t
 
--- a connection's ends are there
+-- the ends of a connection exist
 pub has-end : (cs : List Connection) (c : Connection) (s : Side) → Contains cs c → Has cs (joined_port s c)
 has-end cs c Input (k, l, e) =
     let b = max_bounds (λ xs. used xs c.to Input) (past c.to Input) refl (λ _ _. refl) cs k c l in
@@ -32,7 +32,7 @@ has-end cs c Output (k, l, e) =
     let b = max_bounds (λ xs. used xs c.from Output) (past c.from Output) refl (λ _ _. refl) cs k c l in
     omega (arith, subst (λ (x : Connection). past c.from Output x ≤ used cs c.from Output) e b, past-here c.from Output c refl)
 
--- a connection to the element, to the port or to a higher one
+-- a connection to this port of the element, or to a higher one
 pub record Reason (cs : List Connection) (p : Port) : Type 0 where
   pub by : Connection
   pub there : Contains cs by
@@ -55,7 +55,7 @@ reason_by c cs p true e rest h =
     split : (n m u : ℕ) → n < max (m + 1) u → (n ≤ m) ⊎ (n < u)
     split n m u h = grind arith
 
--- a port is there by some connection
+-- a port exists because of some connection
 pub reason : (cs : List Connection) (p : Port) → Has cs p → Reason cs p
 reason [] p h = absurd (omega (arith, h))
 reason (c ∷ cs) p h = reason_by c cs p (nat_eq (joined_port p.side c).element p.element) refl (reason cs p) h
@@ -64,7 +64,7 @@ pub within-end : (n : ℕ) (c : Connection) (s : Side) → (c.from < n) × (c.to
 within-end n c Input h = h.1
 within-end n c Output h = h.0
 
--- a port is at an element that is there
+-- a port belongs to one of the first n elements
 pub has-within : (n : ℕ) (cs : List Connection) (p : Port) → AreWithin n cs → Has cs p → p.element < n
 has-within n cs p w h =
     let r = reason cs p h in

@@ -1,4 +1,4 @@
--- The net that is found.
+-- The net that `resolve` returns.
 use Rattle.std.proofs.Common.{◌≡◌, ◌⊎◌, inl, inr, ℕ, ◌<◌, ◌≤◌, List, length, get_or, map, Bool, true, false, ◌&&◌, Some, refl, sym, ap, ◌∙◌, subst, arith, ◌++◌, Option, [], ◌∷◌}
 use Rattle.std.specs.Prelude.{filter, nat_lt, ◌↔◌}
 use Rattle.std.proofs.lemmas.List.{length-map, map_push}
@@ -56,7 +56,7 @@ laid-of f states w es cs kept shapes n a b d k s l = record {
   connections = ap (λ (v : Wiring). v.connections) l ∙ k ∙ ap (λ m. filter (is_there m) cs) (d ∙ ap length a) ∙ ap (filter (is_there (length f.elements))) b;
 }
 
--- what has a first breach is not lawful
+-- a net with a first breach is not lawful
 pub refuted : (f : Flat) (states : List State) (w : Wiring) (fault : PortFault) → IsOf f states w → IsFirstBreach w.shapes w.connections fault → Lawful (map shape_of states) (joined f) → ⊥
 refuted f states w fault o b k =
     lawful-none w.shapes w.connections fault (subst (λ cs. Lawful w.shapes cs) (sym o.connections) (subst (λ ss. Lawful ss (joined f)) (sym o.shapes) k)) b.breach
@@ -75,12 +75,12 @@ kept-made es states names w pulls h p q i a b d s m = record {
   pulls = m;
 }
 
--- past the elements and past an element's ports there is none
+-- no port exists after the last element, or after the last port of an element
 pub has-not : (n : Net) (p : Port) (len count : ℕ) → IsLawfulNet n → len ≡ length n.shapes → (len ≤ p.element) ⊎ ((count ≡ used n.connections p.element p.side) × (count ≤ p.number)) → Has n.connections p → ⊥
 has-not n p len count k e (inl l) h = let b = has-within (length n.shapes) n.connections p k.within h in omega (arith, b, l, e)
 has-not n p len count k e (inr (c, l)) h = omega (arith, h, l, c)
 
--- what is read at a port's number
+-- the mark at a port's number
 pub pull-read : (n : Net) (names : List (List ℕ)) (w : Wiring) (pulls : List Bool) (p : Port) (i : ℕ) (b : Bool) → ◌≡◌ {A = Net} (record { names = names; shapes = w.shapes; connections = w.connections }) n →
     KeepsNet names w pulls → Has n.connections p → i ≡ port_index w.connections p → i < length pulls → b ≡ get_or pulls i b → (b ≡ true) ↔ IsPull n.shapes n.connections p
 pull-read n names w pulls p i b seen k h e l r =

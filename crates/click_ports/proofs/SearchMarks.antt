@@ -23,7 +23,7 @@ marked-none codes k marks work = record {
   less = omega arith;
 }
 
--- the next of the row has a mark
+-- the next port of the row is already marked
 pub marked-old : (codes : List Code) (k : Code) (row : List ℕ) (y : ℕ) (marks marks' : List Bool) (work work' : List ℕ) → RowMarked codes k row marks work marks' work' → IsMarked marks' y →
     RowMarked codes k (row ++ y ∷ []) marks work marks' work'
 marked-old codes k row y marks marks' work work' r m = record {
@@ -62,7 +62,7 @@ set-keeps marks y x l h = elim (cases_eq x y) [
   | inr e ↦ get_or-set_other marks y x true false e ∙ h
 ]
 
--- the next of the row gets a mark, and is left to be worked off if it is open
+-- the next port of the row is marked, and becomes work if it is open
 pub marked-new : (codes : List Code) (k : Code) (row : List ℕ) (y : ℕ) (marks marks' : List Bool) (work work' more : List ℕ) → RowMarked codes k row marks work marks' work' → y < length marks' →
     get_or marks' y false ≡ false → ((IsOpen codes k y) × (more ≡ work' ++ y ∷ [])) ⊎ ((IsOpen codes k y → ⊥) × (more ≡ work')) →
     RowMarked codes k (row ++ y ∷ []) marks work (set marks' y true) more
@@ -110,14 +110,14 @@ marked-new codes k row y marks marks' work work' more r l f (inr (o, is)) =
       less = (let a = one_less marks' y l f in let d = r.less in omega (arith, a, d));
     })
 
--- the same of the lists that were made so
+-- the next port is marked, for the lists that the code makes
 pub marked-made : (codes : List Code) (k : Code) (row : List ℕ) (y : ℕ) (marks some made : List Bool) (work left more : List ℕ) → RowMarked codes k row marks work some left → y < length some →
     get_or some y false ≡ false → made ≡ set some y true → ((IsOpen codes k y) × (more ≡ left ++ y ∷ [])) ⊎ ((IsOpen codes k y → ⊥) × (more ≡ left)) →
     RowMarked codes k (row ++ y ∷ []) marks work made more
 marked-made codes k row y marks some made work left more r l f is o =
     subst (λ ms. RowMarked codes k (row ++ y ∷ []) marks work ms more) (sym is) (marked-new codes k row y marks some work left more r l f o)
 
--- whether marks spread through a port, by its code that was read
+-- whether marks spread from a port, by its code
 pub open-read : (codes : List Code) (k : Code) (y : ℕ) (d : Code) → y < length codes → (get_or codes y d ≡ k) ⊎ (get_or codes y d ≡ Agnostic) → IsOpen codes k y
 open-read codes k y d l (inl h) = inl (get_or_default codes y Agnostic d l ∙ h)
 open-read codes k y d l (inr h) = inr (get_or_default codes y Agnostic d l ∙ h)
@@ -126,7 +126,7 @@ pub read-open : (codes : List Code) (k : Code) (y : ℕ) (d : Code) → y < leng
 read-open codes k y d l (inl h) = inl (get_or_default codes y d Agnostic l ∙ h)
 read-open codes k y d l (inr h) = inr (get_or_default codes y d Agnostic l ∙ h)
 
--- the places of a code among those below a number
+-- the ports with a code, among those with lower numbers
 pub record AreNumbersBelow (codes : List Code) (k : Code) (below : ℕ) (found : List ℕ) : Type 0 where
   pub sound : (x : ℕ) → Contains found x → (x < below) × (code_of codes x ≡ k)
   pub complete : (x : ℕ) → x < below → code_of codes x ≡ k → Contains found x
@@ -155,7 +155,7 @@ numbers-same codes k n found e r = record {
   ];
 }
 
--- what holds while ports are left to be worked off
+-- what holds while there is work
 pub record IsUnderWay (codes : List Code) (outside inside : List (List ℕ)) (k : Code) (marks : List Bool) (work : List ℕ) : Type 0 where
   pub sized : length marks ≡ length codes
   pub sound : (x : ℕ) → IsMarked marks x → Spreads codes outside inside k x
@@ -174,7 +174,7 @@ no_marks (suc n) zero h = cc h
 no_marks (suc n) (suc x) h = no_marks n x h
 
 module _ (codes : List Code) (outside inside : List (List ℕ)) (k : Code) where
-  -- the ports of the code have marks, and are left to be worked off
+  -- the ports with the code are marked, and are the work
   pub way-start : (starts work work' : List ℕ) (marks marks' : List Bool) → marks ≡ replicate (length codes) false → work ≡ [] →
       ((x : ℕ) → Contains starts x → (x < length codes) × (code_of codes x ≡ k)) → ((x : ℕ) → x < length codes → code_of codes x ≡ k → Contains starts x) →
       RowMarked codes k starts marks work marks' work' → IsUnderWay codes outside inside k marks' work'
@@ -187,7 +187,7 @@ module _ (codes : List Code) (outside inside : List (List ℕ)) (k : Code) where
         done = λ x h o. elim (r.added x h o) [ inl a ↦ absurd (new x a) | inr a ↦ inl a ];
       }
 
-  -- one port is worked off
+  -- one port of the work is done
   pub way-on : (x : ℕ) (marks marks1 marks2 : List Bool) (work rest work1 work2 : List ℕ) → work ≡ rest ++ x ∷ [] → RowMarked codes k (row_at outside x) marks rest marks1 work1 →
       RowMarked codes k (row_at inside x) marks1 work1 marks2 work2 → IsUnderWay codes outside inside k marks work → IsUnderWay codes outside inside k marks2 work2
   way-on x marks marks1 marks2 work rest work1 work2 popped r1 r2 w =
@@ -226,7 +226,7 @@ module _ (codes : List Code) (outside inside : List (List ℕ)) (k : Code) where
     | inr a ↦ a y n
   ]
 
-  -- nothing is left
+  -- no work is left
   pub way-end : (marks : List Bool) (work : List ℕ) → work ≡ [] → IsUnderWay codes outside inside k marks work → AreMarked codes outside inside k marks
   way-end marks work empty w = record { sized = w.sized; sound = w.sound; complete = all_marked marks work empty w }
 
@@ -242,6 +242,6 @@ pub row-within : (n x : ℕ) (outside inside : List (List ℕ)) (row : List ℕ)
 row-within n x outside inside row g (inl h) y c = g.within x y (inl (subst (λ r. Contains r y) h c))
 row-within n x outside inside row g (inr h) y c = g.within x y (inr (subst (λ r. Contains r y) h c))
 
--- a row that is read
+-- the row at a number
 pub row-read : (rows : List (List ℕ)) (x : ℕ) (r row : List ℕ) → x < length rows → r ≡ get_or rows x r → row ≡ r → row ≡ row_at rows x
 row-read rows x r row l h e = e ∙ h ∙ get_or_default rows x r [] l

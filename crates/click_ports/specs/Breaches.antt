@@ -1,4 +1,4 @@
--- Breaches of the rules of ports, and which of them is answered.
+-- Breaches of the rules of ports, and which of them is the first.
 use Rattle.std.specs.Prelude.{◌≡◌, ◌⊎◌, ℕ, ◌<◌, List, slice_get, true, Some}
 use Rattle.click_classes.specs.declared.ports.Counts.{Counts}
 use Rattle.click_classes.specs.declared.ports.Side.{Side}
@@ -13,7 +13,8 @@ use Rattle.click_ports.specs.Ports.{used, Has, uses}
 use Rattle.click_ports.specs.Kinds.{IsMixed, IsSingle}
 use Rattle.click_ports.specs.Lawful.{Within}
 
--- The side at which a number of ports is not allowed: the inputs; else the outputs; else, where the two have to be equal, the inputs.
+-- The side at which the number of ports is not allowed: the inputs, or else the outputs. If the two
+-- numbers must be equal and are not, it is the inputs.
 pub data IsMiscounted (allowed : Counts) (inputs outputs : ℕ) : Side → Type 0 where
   inputs_out : (Within allowed.inputs inputs → ⊥) → IsMiscounted allowed inputs outputs Input
   outputs_out : Within allowed.inputs inputs → (Within allowed.outputs outputs → ⊥) → IsMiscounted allowed inputs outputs Output
@@ -33,7 +34,7 @@ pub data IsBreach (ss : List Shape) (cs : List Connection) : PortFault → Type 
   mixed : (p : Port) → Has cs p → IsMixed ss cs p → IsBreach ss cs (fault_at kind.Mixed p)
   twice : (p : Port) → Has cs p → IsSingle ss cs p → 1 < uses cs p → IsBreach ss cs (fault_at kind.Twice p)
 
--- counts come first, then unused ports, then mixed ones, then those that are connected twice
+-- numbers of ports come first, then unused ports, then mixed ones, then those with two connections
 abbrev pub rank : FaultKind → ℕ
 rank kind.Count = 0
 rank kind.Unused = 1
@@ -41,12 +42,12 @@ rank kind.Mixed = 2
 rank kind.Twice = 3
 rank kind.NoMemory = 4
 
--- inputs before outputs
+-- inputs come before outputs
 abbrev pub side_rank : Side → ℕ
 side_rank Input = 0
 side_rank Output = 1
 
--- by element, by side, by number
+-- by element, then by side, then by number
 abbrev pub PortBefore : Port → Port → Type 0
 PortBefore p q =
     (p.element < q.element) ⊎ ((p.element ≡ q.element) × ((side_rank p.side < side_rank q.side) ⊎ ((p.side ≡ q.side) × (p.number < q.number))))
@@ -54,11 +55,11 @@ PortBefore p q =
 abbrev pub fault_port : PortFault → Port
 fault_port f = record { element = f.element; side = f.side; number = f.number }
 
--- by kind, and among those of one kind by port
+-- by kind, and for one kind by port
 abbrev pub BreachBefore : PortFault → PortFault → Type 0
 BreachBefore f g = (rank f.kind < rank g.kind) ⊎ ((f.kind ≡ g.kind) × PortBefore (fault_port f) (fault_port g))
 
--- the breach that is answered: no other one stands before it
+-- the first breach: no other one comes before it
 pub record IsFirstBreach (ss : List Shape) (cs : List Connection) (f : PortFault) : Type 0 where
   pub breach : IsBreach ss cs f
   pub first : (g : PortFault) → IsBreach ss cs g → BreachBefore g f → ⊥

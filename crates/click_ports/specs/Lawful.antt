@@ -11,7 +11,7 @@ use Rattle.click_ports.specs.Kinds.{IsMixed, IsSingle}
 abbrev pub Within : ℕ × ℕ → ℕ → Type 0
 Within range n = (range.0 ≤ n) × (n ≤ range.1)
 
--- so many inputs and outputs are allowed
+-- these numbers of inputs and outputs are allowed
 pub record IsCounted (allowed : Counts) (inputs outputs : ℕ) : Type 0 where
   pub inputs_in : Within allowed.inputs inputs
   pub outputs_in : Within allowed.outputs outputs
@@ -25,7 +25,7 @@ AllCounted ss cs = (e : ℕ) (s : Shape) → slice_get ss e ≡ Some s → IsCou
 abbrev pub AllConnected : List Connection → Type 0
 AllConnected cs = (p : Port) → Has cs p → 0 < uses cs p
 
--- no port reaches both a push and a pull port
+-- no port reaches both a push port and a pull port
 abbrev pub NoneMixed : List Shape → List Connection → Type 0
 NoneMixed ss cs = (p : Port) → Has cs p → IsMixed ss cs p → ⊥
 

@@ -11,14 +11,14 @@ use Rattle.click_ports.specs.declared.port.Port.{Port}
 use Rattle.click_ports.specs.declared.shape.Shape.{Shape}
 use Rattle.click_ports.specs.Ports.{input, output, joined_port, Has}
 
--- what stands past the last element: an Idle that has no ports
+-- the shape after the last element: an Idle without ports
 abbrev pub blank : Shape
 blank = record { class = class.Idle; counts = record { inputs = (0, 0); outputs = (0, 0); equal = false } }
 
 abbrev pub class_at : List Shape → ℕ → Class
 class_at ss e = (slice_index_or ss e blank).class
 
--- whether the port is push, pull or agnostic by its class
+-- the code of the port by its class: push, pull or agnostic
 abbrev pub code_at : List Shape → Port → Code
 code_at ss p = code (class_at ss p.element) p.side p.number
 
@@ -28,7 +28,7 @@ IsAgnostic ss p = code_at ss p ≡ Agnostic
 abbrev pub IsFixed : List Shape → Port → Type 0
 IsFixed ss p = IsAgnostic ss p → ⊥
 
--- packets pass inside the element from the input to the output, both of which are agnostic
+-- packets pass inside the element from the input to the output, which are both agnostic
 pub record Passes (ss : List Shape) (cs : List Connection) (e i o : ℕ) : Type 0 where
   pub has_input : Has cs (input e i)
   pub has_output : Has cs (output e o)

@@ -1,4 +1,4 @@
--- What a contract sees of a net, and the net of a flat form and its elements' states.
+-- The value that contracts see of a net, and the net of a flat form and the states of its elements.
 use Rattle.std.specs.Prelude.{◌≡◌, ℕ, ◌<◌, List, length, map, filter, All, Bool, ◌&&◌, nat_lt, Some}
 use Rattle.click_classes.specs.declared.state.State.{State}
 use Rattle.click_classes.specs.Ports.{counts}
@@ -9,21 +9,21 @@ use Rattle.click_expand.specs.declared.flat.Flat.{Flat}
 use Rattle.click_ports.specs.declared.shape.Shape.{Shape}
 use Rattle.click_ports.specs.Lawful.{Lawful}
 
--- names and shapes of the elements in flat order, and the connections
+-- the names and shapes of the elements, in flat order, and the connections
 pub record Net : Type 0 where
   pub names : List (List ℕ)
   pub shapes : List Shape
   pub connections : List Connection
 
--- what the rules read of a state
+-- the part of a state that the rules of ports depend on
 abbrev pub shape_of : State → Shape
 shape_of s = record { class = class s; counts = counts s }
 
--- both ends of the connection are among so many elements
+-- both ends of the connection are among the first n elements
 abbrev pub is_there : ℕ → Connection → Bool
 is_there n c = nat_lt c.from n && nat_lt c.to n
 
--- the connections that join two elements; one with an end at no element joins nothing
+-- the connections between two elements; a connection with an end at no element is left out
 abbrev pub joined : Flat → List Connection
 joined f = filter (is_there (length f.elements)) f.connections
 
@@ -41,7 +41,8 @@ net_of f states = record {
 abbrev pub AreStatesOf : List FlatElement → List State → Type 0
 AreStatesOf es states = map (λ (e : FlatElement). e.class) es ≡ map class states
 
--- what each net keeps: a name for each element, connections between elements that are there, and the rules of ports
+-- what holds of each net: a name for each element, connections between existing elements, and the
+-- rules of ports
 pub record IsLawfulNet (net : Net) : Type 0 where
   pub named : length net.names ≡ length net.shapes
   pub within : All (λ (c : Connection). (c.from < length net.shapes) × (c.to < length net.shapes)) net.connections

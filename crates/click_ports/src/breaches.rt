@@ -16,7 +16,7 @@ use crate::port::Port;
 use crate::row::Row;
 use click_classes::Side;
 
-/// A fault at a port.
+/// Returns a fault of a kind at a port.
 fn fault_at(kind: FaultKind, port: Port) -> PortFault
     ensures { result ≡ spec.fault_at kind port }
 {
@@ -28,7 +28,7 @@ fn fault_at(kind: FaultKind, port: Port) -> PortFault
     }
 }
 
-/// The first port without a connection.
+/// Returns the first port without a connection, as a fault.
 pub fn first_unused(layout: &Layout, ends: &[Row]) -> Option<PortFault>
     requires ends { AreFarEnds layout.now ends.now }
     requires counted { AllCounted layout.now.shapes layout.now.connections }
@@ -42,7 +42,7 @@ pub fn first_unused(layout: &Layout, ends: &[Row]) -> Option<PortFault>
     None
 }
 
-/// The first port that reaches both kinds.
+/// Returns the first port that reaches both a push port and a pull port, as a fault.
 pub fn first_mixed(layout: &Layout, kinds: &Kinds) -> Option<PortFault>
     requires pushes { AreMarks layout.now Push kinds.now.pushes.items }
     requires pulls { AreMarks layout.now Pull kinds.now.pulls.items }
@@ -58,7 +58,7 @@ pub fn first_mixed(layout: &Layout, kinds: &Kinds) -> Option<PortFault>
     None
 }
 
-/// Whether a port has exactly one connection: a push output or a pull input.
+/// Returns whether a port must have exactly one connection: a push output or a pull input.
 fn is_single(side: Side, pull: bool) -> bool
     ensures { result ≡ table.is_single side pull }
 {
@@ -68,7 +68,7 @@ fn is_single(side: Side, pull: bool) -> bool
     }
 }
 
-/// The first push output or pull input with more than one connection.
+/// Returns the first push output or pull input with more than one connection, as a fault.
 pub fn first_twice(layout: &Layout, ends: &[Row], pulls: &[bool]) -> Option<PortFault>
     requires ends { AreFarEnds layout.now ends.now }
     requires pulls { AreMarks layout.now Pull pulls.now }

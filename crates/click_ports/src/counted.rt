@@ -1,4 +1,4 @@
-//! Whether each element has as many ports as its state allows.
+//! The rule that each element has as many ports as its state allows.
 
 ghost use Rattle.std.specs.Prelude.{◌≡◌, ◌↔◌, ◌≤◌, length, IsTrue, MatchOption};
 ghost use Rattle.click_ports.specs.Lawful.{Within, IsCounted, AllCounted};
@@ -8,14 +8,14 @@ use crate::fault::{FaultKind, PortFault};
 use crate::layout::Layout;
 use click_classes::{Counts, Side};
 
-/// Whether a number is in a range, both ends included.
+/// Returns whether a number is in a range. Both bounds are included.
 fn is_within(range: (u16, u16), count: u16) -> bool
     ensures { IsTrue result ↔ Within range count }
 {
     range.0 <= count && count <= range.1
 }
 
-/// The side at which the number of ports is not allowed.
+/// Returns the side at which the number of ports is not allowed, if there is one.
 fn miscounted(allowed: Counts, inputs: u16, outputs: u16) -> Option<Side>
     ensures { MatchOption result (IsCounted allowed inputs outputs) (IsMiscounted allowed inputs outputs) }
 {
@@ -31,7 +31,7 @@ fn miscounted(allowed: Counts, inputs: u16, outputs: u16) -> Option<Side>
     None
 }
 
-/// The first element that has more or fewer ports than its state allows.
+/// Returns the first element with more or fewer ports than its state allows, as a fault.
 pub fn first_miscount(layout: &Layout) -> Option<PortFault>
     ensures { MatchOption result (AllCounted layout.now.shapes layout.now.connections) (IsFirstBreach layout.now.shapes layout.now.connections) }
 {

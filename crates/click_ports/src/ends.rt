@@ -1,4 +1,4 @@
-//! Which ports the connections join.
+//! The ports at the ends of the connections.
 
 ghost use Rattle.std.specs.Prelude.{◌≡◌, ◌<◌, [], ◌∷◌, ◌++◌, length, IfOk, OnOk, vec_len, slice_set, slice_index_or, replicate};
 ghost use Rattle.click_ports.specs.kept.Ends.{AreFarEnds};
@@ -9,7 +9,7 @@ use crate::sizes::joined_port;
 use click_classes::Side;
 use std::alloc::{AllocError, Global};
 
-/// So many empty rows.
+/// Returns `count` empty rows, or fails with out of memory.
 fn empty_rows(alloc: Global, count: usize) -> Result<Vec<Row>, AllocError>
     ensures { IfOk result (λ rows. rows.items ≡ replicate count []) }
 {
@@ -20,7 +20,7 @@ fn empty_rows(alloc: Global, count: usize) -> Result<Vec<Row>, AllocError>
     Ok(rows)
 }
 
-/// Adds a number at the end of a row.
+/// Appends a number to a row.
 fn add_to(alloc: Global, rows: &mut Vec<Row>, row: usize, number: usize) -> Result<(), AllocError>
     requires { row < vec_len rows.old }
     ensures { OnOk result (rows.new.items ≡ slice_set rows.old.items row (slice_index_or rows.old.items row [] ++ number ∷ [])) }
@@ -28,7 +28,9 @@ fn add_to(alloc: Global, rows: &mut Vec<Row>, row: usize, number: usize) -> Resu
     rows[row].push(alloc, number)
 }
 
-/// For each port the numbers of the ports at the other ends of its connections, one for each connection.
+/// Returns for each port the numbers of the ports at the other ends of its connections.
+///
+/// Each connection adds one number.
 pub fn ends_of(alloc: Global, layout: &Layout) -> Result<Vec<Row>, AllocError>
     ensures { IfOk result (λ rows. AreFarEnds layout.now rows.items) }
 {

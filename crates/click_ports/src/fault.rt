@@ -1,4 +1,4 @@
-//! Why a configuration's ports are refused.
+//! The faults of the ports of a configuration.
 
 ghost use Rattle.std.specs.Prelude.{◌≡◌};
 ghost use Rattle.click_ports.specs.FaultText.{kind_text};
@@ -8,15 +8,15 @@ use std::alloc::AllocError;
 use std::fmt;
 use thiserror::Error;
 
-/// What is wrong. It prints as its number and its name.
+/// The kind of a fault. It is printed as its number and its name.
 #[derive(Clone, Copy, Debug, PartialEq, Eq, Error)]
 #[error("{}", self.text())]
 pub enum FaultKind {
-    /// Memory ran out.
+    /// Out of memory.
     NoMemory,
     /// The element has more or fewer ports than its state allows.
     Count,
-    /// The port is not connected, and a higher one is.
+    /// The port is not connected, but a higher one is.
     Unused,
     /// A push output or a pull input has more than one connection.
     Twice,
@@ -24,21 +24,23 @@ pub enum FaultKind {
     Mixed,
 }
 
-/// The first breach of the rules of ports, where it is. Out of memory has no place, and stands at 0. Its text is the
-/// kind's, with the place where there is one: `31 Count at element 3, inputs 0`, `32 Unused at element 3, input 1`.
+/// The first breach of the rules of ports, and its position; or out of memory, at element 0.
+///
+/// It is printed as its kind, with its position: `31 Count at element 3, inputs 0` or
+/// `32 Unused at element 3, input 1`. Out of memory is printed without a position.
 #[derive(Clone, Copy, Debug, PartialEq, Eq, Error)]
 #[error("{kind}{place}", place = self.place())]
 pub struct PortFault {
     pub kind: FaultKind,
-    /// The element's place in flat order, from 0.
+    /// The index of the element in flat order, from 0.
     pub element: usize,
     pub side: Side,
-    /// The port's number, from 0; for a count, how many ports are used.
+    /// The number of the port, from 0; for a count, the number of used ports.
     pub number: u16,
 }
 
 impl FaultKind {
-    /// Its number and its name, as operators see them.
+    /// Returns the number and the name of the kind, as operators see them.
     pub fn text(self) -> &'static str
         ensures { result.now ≡ kind_text self }
     {
@@ -53,13 +55,13 @@ impl FaultKind {
 }
 
 impl PortFault {
-    /// Where it is, as text.
+    /// Returns the position of the fault, for printing.
     fn place(&self) -> Place {
         Place(*self)
     }
 }
 
-/// The place of a fault as text: nothing where memory ran out.
+/// The printed position of a fault; nothing for out of memory.
 #[derive(Clone, Copy)]
 struct Place(PortFault);
 

@@ -1,4 +1,4 @@
-//! Which ports are push and which are pull.
+//! The kinds of ports: which are push and which are pull.
 
 ghost use Rattle.std.specs.Prelude.{length, IfOk};
 ghost use Rattle.click_classes.specs.declared.ports.Code.TheVariants.{Push, Pull};
@@ -13,14 +13,14 @@ use crate::search::ports_reaching;
 use click_classes::Code;
 use std::alloc::{AllocError, Global};
 
-/// Which ports reach a push port, and which a pull port.
+/// Whether each port reaches a push port, and whether it reaches a pull port.
 #[derive(Drop)]
 pub struct Kinds {
     pub pushes: Vec<bool>,
     pub pulls: Vec<bool>,
 }
 
-/// The code of each port.
+/// Returns the code of each port, or fails with out of memory.
 fn codes_of(alloc: Global, layout: &Layout) -> Result<Vec<Code>, AllocError>
     ensures codes { IfOk result (λ codes. AreCodes layout.now codes.items) }
     ensures within { AreWithin (length layout.now.shapes) layout.now.connections }
@@ -32,7 +32,7 @@ fn codes_of(alloc: Global, layout: &Layout) -> Result<Vec<Code>, AllocError>
     Ok(codes)
 }
 
-/// The kinds of all ports, by the other ends of their connections.
+/// Returns the kinds of all ports, from the other ends of their connections.
 pub fn kinds_of(alloc: Global, layout: &Layout, ends: &[Row]) -> Result<Kinds, AllocError>
     requires { AreFarEnds layout.now ends.now }
     ensures pushes { IfOk result (λ kinds. AreMarks layout.now Push kinds.pushes.items) }

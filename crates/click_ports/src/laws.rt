@@ -1,4 +1,4 @@
-//! What holds of the definitions.
+//! Theorems about the definitions.
 
 ghost use Rattle.std.specs.Prelude.{◌≡◌, ◌↔◌, ℕ, ◌<◌, Bool, List, Contains, true};
 ghost use Rattle.click_classes.specs.declared.ports.Side.TheVariants.{Input, Output};
@@ -17,12 +17,14 @@ pub fn ends_agree()
     ensures { (ss : List Shape) (cs : List Connection) (c : Connection) → Lawful ss cs → Contains cs c → IsPull ss cs (joined_port Output c) ↔ IsPull ss cs (joined_port Input c) }
 {}
 
-/// A port's kind does not depend on the order of the connections, nor on how often each is written.
+/// The kind of a port depends neither on the order of the connections nor on repetitions of them.
 pub fn order_is_free()
     ensures { (ss : List Shape) (cs ds : List Connection) → ((c : Connection) → Contains cs c ↔ Contains ds c) → (p : Port) → IsPull ss cs p ↔ IsPull ss ds p }
 {}
 
-/// A port that reaches no push or pull port is push; so is each port of a ring of agnostic ports that are linked with one another alone.
+/// A port that reaches no push or pull port is push.
+///
+/// This includes each port of a ring of agnostic ports that are linked only with one another.
 pub fn push_by_default()
     ensures alone { (ss : List Shape) (cs : List Connection) (p : Port) → ((q : Port) → Reaches ss cs p q → ⊥) → IsPush ss cs p }
     ensures ring { (ss : List Shape) (cs : List Connection) (ring : Port → Bool) → ((p : Port) → ring p ≡ true → IsAgnostic ss p)
@@ -35,7 +37,9 @@ pub fn one_answer()
     ensures lawful { (ss : List Shape) (cs : List Connection) (f : PortFault) → Lawful ss cs → IsBreach ss cs f → ⊥ }
 {}
 
-/// In a lawful net each port has a connection, and a push output, as a pull input, has that one alone: so a push there has one target, and a pull one source.
+/// In a lawful net each port has a connection; a push output or a pull input has exactly one.
+///
+/// A push at such an output has one target, and a pull at such an input has one source.
 pub fn each_port_has_its_connection()
     ensures connected { (ss : List Shape) (cs : List Connection) (p : Port) → Lawful ss cs → Has cs p → (c : Connection) × Contains cs c × (joined_port p.side c ≡ p) }
     ensures one_target { (ss : List Shape) (cs : List Connection) (c d : Connection) → Lawful ss cs → Contains cs c → Contains cs d

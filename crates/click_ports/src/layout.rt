@@ -1,4 +1,4 @@
-//! Elements and connections, with all their ports numbered.
+//! A layout: elements and connections, with all ports numbered.
 
 ghost use Rattle.std.specs.Prelude.{◌≡◌, ◌↔◌, ◌<◌, ◌≤◌, length, IfOk, IsTrue};
 ghost use Rattle.click_ports.specs.Ports as spec;
@@ -15,7 +15,7 @@ use click_expand::Connection;
 use std::alloc::{AllocError, Global};
 use std::marker::Model;
 
-/// The elements' shapes, the connections between them, and the ports under their numbers.
+/// The shapes of the elements, the connections between them, and the ports by their numbers.
 #[derive(Drop)]
 pub struct Layout {
     elements: Vec<Shape>,
@@ -36,7 +36,7 @@ impl Model for Layout {
 }
 
 impl Layout {
-    /// The layout of these elements and the connections between them.
+    /// Returns the layout of these elements and the connections between them.
     pub fn of(
         alloc: Global,
         elements: Vec<Shape>,
@@ -54,14 +54,14 @@ impl Layout {
         })
     }
 
-    /// The elements' shapes.
+    /// Returns the shapes of the elements.
     pub fn shapes(&self) -> &[Shape]
         ensures { result.now ≡ self.now.shapes }
     {
         self.elements.as_slice()
     }
 
-    /// The connections.
+    /// Returns the connections.
     pub fn connections(&self) -> &[Connection]
         ensures value { result.now ≡ self.now.connections }
         ensures within { AreWithin (length self.now.shapes) self.now.connections }
@@ -69,7 +69,7 @@ impl Layout {
         self.joined.as_slice()
     }
 
-    /// All ports, each at its number.
+    /// Returns all ports; the index of each is its number.
     pub fn ports(&self) -> &[Port]
         ensures all { length result.now ≡ first self.now.connections (length self.now.shapes) }
         ensures right { InPlace self.now.connections result.now }
@@ -78,7 +78,7 @@ impl Layout {
         self.ports.as_slice()
     }
 
-    /// How many ports the element has at the side.
+    /// Returns the number of ports of the element at the side.
     pub fn used(&self, element: usize, side: Side) -> u16
         requires { element < length self.now.shapes }
         ensures value { result ≡ spec.used self.now.connections element side }
@@ -87,7 +87,7 @@ impl Layout {
         self.blocks[element].count(side)
     }
 
-    /// The port's number.
+    /// Returns the number of the port.
     pub fn number(&self, port: Port) -> usize
         requires { Has self.now.connections port }
         ensures value { result ≡ port_index self.now.connections port }
@@ -97,7 +97,7 @@ impl Layout {
         block.first + usize::from(block.ahead(port.side)) + usize::from(port.number)
     }
 
-    /// The element's class.
+    /// Returns the class of the element.
     pub fn class(&self, element: usize) -> Class
         requires { element < length self.now.shapes }
         ensures { result ≡ links.class_at self.now.shapes element }
@@ -105,7 +105,7 @@ impl Layout {
         self.elements[element].class
     }
 
-    /// Whether a port is push, pull or agnostic by its class.
+    /// Returns the code of a port by its class: push, pull or agnostic.
     pub fn code(&self, port: Port) -> Code
         requires { port.element < length self.now.shapes }
         ensures { result ≡ links.code_at self.now.shapes port }
@@ -113,7 +113,7 @@ impl Layout {
         code(self.class(port.element), port.side, port.number)
     }
 
-    /// Whether a port is agnostic by its class.
+    /// Returns whether a port is agnostic by its class.
     pub fn is_agnostic(&self, port: Port) -> bool
         requires { port.element < length self.now.shapes }
         ensures { IsTrue result ↔ links.IsAgnostic self.now.shapes port }

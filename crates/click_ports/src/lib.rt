@@ -1,4 +1,5 @@
-//! The rules of ports: which nets are lawful, which ports are push and which are pull, and the first breach (Click manual, "Ports"; TOCS 2000).
+//! The rules of ports: which nets are lawful, which ports are push and which are pull, and the
+//! first breach (Click manual, "Ports"; TOCS 2000).
 #![tactic(auto)]
 
 mod breaches;

@@ -1,4 +1,4 @@
-//! Names that stand in one buffer.
+//! Names in one buffer.
 
 ghost use Rattle.std.specs.Prelude.{◌≡◌, ◌<◌, [], length, slice_index_or, IfOk};
 ghost use Rattle.click_ports.specs.Net.{names_of};
@@ -8,14 +8,16 @@ use click_expand::FlatElement;
 use std::alloc::{AllocError, Global};
 use std::marker::Model;
 
-/// Where a name stands: the bytes from `start` on, up to but without `end`.
+/// The bytes of a name, from `start` up to but not including `end`.
 #[derive(Clone, Copy)]
 pub struct NamePlace {
     pub start: usize,
     pub end: usize,
 }
 
-/// Names in order. However many there are, they take two blocks of memory.
+/// Names in order.
+///
+/// perf: two blocks of memory hold any number of names.
 #[derive(Drop)]
 pub struct NameTable {
     bytes: Vec<u8>,
@@ -31,7 +33,7 @@ impl Model for NameTable {
     ghost view = { λ t. map (name_within t.bytes.items) t.places.items };
 }
 
-/// The bytes that stand there: as many of them as there are.
+/// Returns the bytes of a name, or those of them that exist.
 fn part(bytes: &[u8], place: NamePlace) -> &[u8]
     ensures { result.now ≡ name_within bytes.now place }
 {
@@ -40,7 +42,7 @@ fn part(bytes: &[u8], place: NamePlace) -> &[u8]
 }
 
 impl NameTable {
-    /// The names of these elements.
+    /// Returns the names of these elements, or fails with out of memory.
     pub fn gather(alloc: Global, elements: &[FlatElement]) -> Result<NameTable, AllocError>
         ensures { IfOk result (λ names. names ≡ names_of elements.now) }
     {
@@ -57,7 +59,7 @@ impl NameTable {
         Ok(NameTable { bytes, places })
     }
 
-    /// The name at a place.
+    /// Returns the name at an index.
     pub fn at(&self, place: usize) -> &[u8]
         requires { place < length self.now }
         ensures { result.now ≡ slice_index_or self.now place [] }

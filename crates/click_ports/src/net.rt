@@ -1,4 +1,5 @@
-//! A lawful net.
+//! A net: elements and connections that satisfy the port rules (`IsLawfulNet`), with each port
+//! resolved to push or pull.
 
 ghost use Rattle.std.specs.Prelude.{◌≡◌, ◌↔◌, ◌<◌, ◌≤◌, [], length, IfSome, IsSome, IsTrue, slice_index_or};
 ghost use Rattle.click_ports.specs.kept.Nets.{KeepsNet};
@@ -15,7 +16,7 @@ use click_classes::Side;
 use click_expand::Connection;
 use std::marker::Model;
 
-/// Elements and the connections between them, by which every port is push or pull and no rule of ports is broken.
+/// Elements and connections that satisfy the port rules, with each port resolved to push or pull.
 #[derive(Drop)]
 pub struct Net {
     element_names: NameTable,
@@ -35,7 +36,9 @@ impl Model for Net {
 }
 
 impl Net {
-    /// The net of these parts.
+    /// Returns the net with these parts.
+    ///
+    /// `pulling` has one entry for each port number: true if the port is pull.
     pub(crate) fn of(element_names: NameTable, layout: Layout, pulling: Vec<bool>) -> Net
         requires { KeepsNet element_names layout pulling.items }
         ensures { result ≡ record { names = element_names; shapes = layout.shapes; connections = layout.connections } }
@@ -47,7 +50,7 @@ impl Net {
         }
     }
 
-    /// The element's flat name.
+    /// Returns the flat name of the element.
     pub fn name(&self, element: usize) -> &[u8]
         requires { element < length self.now.names }
         ensures value { result.now ≡ slice_index_or self.now.names element [] }
@@ -56,7 +59,7 @@ impl Net {
         self.element_names.at(element)
     }
 
-    /// What the net knows of the elements' states, in flat order.
+    /// Returns the shape of each element (its class and allowed port counts), in flat order.
     pub fn shapes(&self) -> &[Shape]
         ensures value { result.now ≡ self.now.shapes }
         ensures sound { IsLawfulNet self.now }
@@ -64,7 +67,7 @@ impl Net {
         self.layout.shapes()
     }
 
-    /// The connections, each between two elements of the net.
+    /// Returns the connections, each between two elements of the net.
     pub fn connections(&self) -> &[Connection]
         ensures value { result.now ≡ self.now.connections }
         ensures sound { IsLawfulNet self.now }
@@ -72,7 +75,7 @@ impl Net {
         self.layout.connections()
     }
 
-    /// How many ports the element has at the side.
+    /// Returns one more than the highest connected port number of the element at this side, or 0.
     pub fn used(&self, element: usize, side: Side) -> u16
         requires { element < length self.now.shapes }
         ensures value { result ≡ spec.used self.now.connections element side }
@@ -81,7 +84,8 @@ impl Net {
         self.layout.used(element, side)
     }
 
-    /// Whether the port is pull, else it is push. None where the element has no such port.
+    /// Returns whether the port is pull; if not, it is push. Returns `None` if the port does not
+    /// exist.
     pub fn pulls(&self, element: usize, side: Side, port: u16) -> Option<bool>
         ensures there { IsSome result ↔ Has self.now.connections (record { element = element; side = side; number = port }) }
         ensures pull { IfSome result (λ pull. IsTrue pull ↔ IsPull self.now.shapes self.now.connections (record { element = element; side = side; number = port })) }

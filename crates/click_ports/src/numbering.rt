@@ -1,4 +1,4 @@
-//! The numbers of ports: element by element, inputs before outputs, in their order.
+//! The numbers of ports: element by element, inputs before outputs.
 
 ghost use Rattle.std.specs.Prelude.{◌≡◌, ◌+◌, ◌<◌, ◌≤◌, ◌++◌, IfOk, OnOk, vec_len};
 ghost use Rattle.click_ports.specs.kept.Numbered.{side_ports};
@@ -10,7 +10,7 @@ use click_classes::Side;
 use click_expand::Connection;
 use std::alloc::{AllocError, Global};
 
-/// The number of an element's first port, and how many inputs and outputs it has.
+/// The number of an element's first port, and its numbers of inputs and outputs.
 #[derive(Clone, Copy, Debug, PartialEq, Eq)]
 pub struct Block {
     pub first: usize,
@@ -22,7 +22,7 @@ impl Block {
     ghost use Rattle.std.specs.Prelude.{◌≡◌};
     ghost use Rattle.click_ports.specs.kept.Wiring.{ahead_in, count_in};
 
-    /// How many ports of the element stand before those of the side.
+    /// Returns the number of ports of the element that come before those of the side.
     pub fn ahead(self, side: Side) -> u16
         ensures { result ≡ ahead_in self side }
     {
@@ -32,7 +32,7 @@ impl Block {
         }
     }
 
-    /// How many ports the side has.
+    /// Returns the number of ports at the side.
     pub fn count(self, side: Side) -> u16
         ensures { result ≡ count_in self side }
     {
@@ -43,7 +43,7 @@ impl Block {
     }
 }
 
-/// Adds so many ports of the element's side.
+/// Appends `count` ports of the element's side.
 fn push_ports(
     ports: &mut Vec<Port>,
     element: usize,
@@ -62,7 +62,7 @@ fn push_ports(
     Ok(())
 }
 
-/// The blocks of so many elements, and all their ports.
+/// Returns the blocks of the first `elements` elements, and all their ports.
 pub fn numbered(
     alloc: Global,
     connections: &[Connection],

@@ -1,4 +1,4 @@
-//! Which ports are linked inside their element.
+//! The links between ports inside their element.
 
 ghost use Rattle.std.specs.Prelude.{◌≡◌, ℕ, ◌<◌, ◌≤◌, length, true, IfOk};
 ghost use Rattle.click_classes.specs.Ports as codes;
@@ -13,7 +13,7 @@ use click_base::Class;
 use click_classes::{Side, passes};
 use std::alloc::{AllocError, Global};
 
-/// The other side.
+/// Returns the opposite side.
 fn opposite(side: Side) -> Side
     ensures { result ≡ spec.opposite side }
 {
@@ -23,7 +23,9 @@ fn opposite(side: Side) -> Side
     }
 }
 
-/// Which of so many ports of the other side may be passed to or from: those from the first number on, below the second.
+/// Returns a range that contains all ports of the opposite side that may be linked.
+///
+/// The range is from the first number up to but not including the second.
 fn candidates(class: Class, number: u16, count: u16) -> (u16, u16)
     ensures within { result.1 ≤ count }
     ensures onward { (n : ℕ) → n < count → codes.passes class number n ≡ true → (result.0 ≤ n) × (n < result.1) }
@@ -37,7 +39,7 @@ fn candidates(class: Class, number: u16, count: u16) -> (u16, u16)
     }
 }
 
-/// Whether packets pass between a port of that side and one of the other.
+/// Returns whether packets pass between a port of this side and one of the opposite side.
 fn passes_between(class: Class, side: Side, number: u16, other: u16) -> bool
     ensures { result ≡ spec.passes_between class side number other }
 {
@@ -47,7 +49,7 @@ fn passes_between(class: Class, side: Side, number: u16, other: u16) -> bool
     }
 }
 
-/// The numbers of the ports that the port is linked with inside its element.
+/// Returns the numbers of the ports with which the port is linked inside its element.
 fn passages(alloc: Global, layout: &Layout, port: Port) -> Result<Row, AllocError>
     requires there { Has layout.now.connections port }
     requires within { port.element < length layout.now.shapes }
@@ -73,7 +75,7 @@ fn passages(alloc: Global, layout: &Layout, port: Port) -> Result<Row, AllocErro
     Ok(row)
 }
 
-/// For each port the numbers of the ports that it is linked with inside its element.
+/// Returns for each port the numbers of the ports with which it is linked inside its element.
 pub fn all_passages(alloc: Global, layout: &Layout) -> Result<Vec<Row>, AllocError>
     ensures { IfOk result (λ rows. AreRows layout.now rows.items) }
 {

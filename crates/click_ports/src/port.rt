@@ -2,7 +2,7 @@
 
 use click_classes::Side;
 
-/// A port: the place of its element in flat order, its side, and its number there. All count from 0.
+/// A port: the index of its element in flat order, its side, and its number. All count from 0.
 #[derive(Clone, Copy, Debug, PartialEq, Eq)]
 pub struct Port {
     pub element: usize,

@@ -1,4 +1,4 @@
-//! The net of a flat form and its elements' states.
+//! The net of a flat form and the states of its elements.
 
 ghost use Rattle.std.specs.Prelude.{◌≡◌, IfOk, IfErr, map, filter};
 ghost use Rattle.click_ports.specs.Breaches.{IsFirstBreach, IsMemoryOr, no_memory};
@@ -18,7 +18,7 @@ use click_classes::{State, counts};
 use click_expand::{Connection, Flat};
 use std::alloc::{AllocError, Global};
 
-/// The states' shapes.
+/// Returns the shapes of the states, or fails with out of memory.
 fn shapes_of(alloc: Global, states: &[State]) -> Result<Vec<Shape>, AllocError>
     ensures { IfOk result (λ shapes. shapes.items ≡ map shape_of states.now) }
 {
@@ -49,16 +49,17 @@ fn joined(
     Ok(kept)
 }
 
-/// The net of a flat form and one state for each of its elements, or the first breach of the rules of ports. A connection with an end at no
-/// element of the flat form joins nothing, and is left out.
+/// Returns the net of a flat form and one state for each element, or the first breach of the rules.
+///
+/// A connection with an end at no element of the flat form is left out. May fail with `NoMemory`.
 pub fn resolve(alloc: Global, flat: &Flat, states: &[State]) -> Result<Net, PortFault>
     requires { AreStatesOf flat.now.elements states.now }
     // The net is that of the flat form and the states, and it is lawful.
     ensures net { IfOk result (λ net. net ≡ net_of flat.now states.now) }
     ensures sound { IfOk result IsLawfulNet }
-    // A lawful net is found, unless memory runs out.
+    // If that net is lawful, the only error is out of memory.
     ensures only { Lawful (net_of flat.now states.now).shapes (net_of flat.now states.now).connections → IfErr result (λ f. f ≡ no_memory) }
-    // Which fault it is.
+    // The fault is out of memory, or the first breach.
     ensures err { IfErr result (λ f. IsMemoryOr f (IsFirstBreach (net_of flat.now states.now).shapes (net_of flat.now states.now).connections f)) }
 {
     let elements = flat.elements.as_slice();

@@ -6,7 +6,9 @@ use std::alloc::{AllocError, Global};
 use std::marker::Model;
 use std::slice::from_ref;
 
-/// Where a row's numbers stand. Most rows have one number, which takes no memory.
+/// The storage of a row.
+///
+/// perf: most rows have one number, which needs no allocation.
 #[derive(Drop)]
 pub enum Numbers {
     None,
@@ -29,7 +31,7 @@ impl Model for Row {
     ghost view = { λ r. listed r.numbers };
 }
 
-/// Two numbers.
+/// Returns a list of two numbers, with room for more.
 fn both(alloc: Global, first: usize, second: usize) -> Result<Vec<usize>, AllocError>
     ensures { IfOk result (λ all. all.items ≡ first ∷ second ∷ []) }
 {
@@ -40,7 +42,7 @@ fn both(alloc: Global, first: usize, second: usize) -> Result<Vec<usize>, AllocE
 }
 
 impl Row {
-    /// No numbers.
+    /// Returns an empty row.
     pub fn new() -> Row
         ensures { result ≡ [] }
     {
@@ -49,7 +51,7 @@ impl Row {
         }
     }
 
-    /// The numbers, in order.
+    /// Returns the numbers, in order.
     pub fn as_slice(&self) -> &[usize]
         ensures { result.now ≡ self.now }
     {
@@ -60,14 +62,14 @@ impl Row {
         }
     }
 
-    /// How many there are.
+    /// Returns the number of items.
     pub fn len(&self) -> usize
         ensures { result ≡ length self.now }
     {
         self.as_slice().len()
     }
 
-    /// Adds a number at the end. Where memory runs out, the row stays as it was.
+    /// Appends a number. If it fails with out of memory, the row is unchanged.
     pub fn push(&mut self, alloc: Global, number: usize) -> Result<(), AllocError>
         ensures ok { OnOk result (self.new ≡ self.old ++ number ∷ []) }
         ensures err { OnErr result (self.new ≡ self.old) }

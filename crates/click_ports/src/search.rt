@@ -1,4 +1,4 @@
-//! Which ports of a graph stand before a port of a code.
+//! The ports of a graph that reach a port with a certain code.
 
 ghost use Rattle.std.specs.Prelude.{◌≡◌, ◌↔◌, ◌⊎◌, ℕ, ◌<◌, [], length, Contains, IfOk, OnOk, IsTrue, slice_index_or, true, false};
 ghost use Rattle.click_classes.specs.declared.ports.Code.TheVariants.{Agnostic};
@@ -8,7 +8,7 @@ use crate::row::Row;
 use click_classes::Code;
 use std::alloc::{AllocError, Global};
 
-/// The numbers of the ports that have the code.
+/// Returns the numbers of the ports with this code.
 fn numbers_of(alloc: Global, codes: &[Code], code: Code) -> Result<Vec<usize>, AllocError>
     ensures sound { IfOk result (λ found. (x : ℕ) → Contains found.items x → (x < length codes.now) × (code_of codes.now x ≡ code)) }
     ensures complete { IfOk result (λ found. (x : ℕ) → x < length codes.now → code_of codes.now x ≡ code → Contains found.items x) }
@@ -22,14 +22,16 @@ fn numbers_of(alloc: Global, codes: &[Code], code: Code) -> Result<Vec<usize>, A
     Ok(found)
 }
 
-/// Whether marks spread through a port of that code.
+/// Returns whether marks spread from a port with the code `its_code`.
 fn is_open(its_code: Code, code: Code) -> bool
     ensures { IsTrue result ↔ ((its_code ≡ code) ⊎ (its_code ≡ Agnostic)) }
 {
     its_code == code || its_code == Code::Agnostic
 }
 
-/// Marks the ports of a row. Those that were not marked before and through which the marks spread, are left to be worked off.
+/// Marks the ports of a row.
+///
+/// Newly marked ports from which the marks spread are appended to `work`.
 fn mark_row(
     row: &[usize],
     codes: &[Code],
@@ -52,7 +54,7 @@ fn mark_row(
     Ok(())
 }
 
-/// For each port whether the marks that begin at the ports of the code spread to it.
+/// Returns for each port whether the marks that begin at the ports with this code spread to it.
 pub fn ports_reaching(
     alloc: Global,
     codes: &[Code],

@@ -1,9 +1,11 @@
-//! What the rules of ports read of an element's state.
+//! The part of an element's state that the rules of ports depend on.
 
 use click_base::Class;
 use click_classes::Counts;
 
-/// An element's class, and how many ports its state allows. A later state of the same shape fits the same net.
+/// The class of an element, and the numbers of ports that its state allows.
+///
+/// A later state with the same shape fits the same net.
 #[derive(Clone, Copy, Debug, PartialEq, Eq)]
 pub struct Shape {
     pub class: Class,

@@ -1,4 +1,4 @@
-//! How many ports each element has.
+//! The numbers of ports of the elements.
 
 ghost use Rattle.std.specs.Prelude.{◌≡◌, ℕ, ◌<◌, ◌≤◌, IfOk, slice_index};
 ghost use Rattle.click_ports.specs.Ports as spec;
@@ -10,7 +10,7 @@ use click_classes::Side;
 use click_expand::Connection;
 use std::alloc::{AllocError, Global};
 
-/// The port that a connection joins at a side.
+/// Returns the port of a connection at a side.
 pub fn joined_port(side: Side, connection: Connection) -> Port
     ensures is { result ≡ spec.joined_port side connection }
     ensures small { result.number < 256 }
@@ -29,7 +29,8 @@ pub fn joined_port(side: Side, connection: Connection) -> Port
     }
 }
 
-/// How many ports each of so many elements has at a side: one more than its highest connected one.
+/// Returns the number of ports at a side for each element: one more than its highest connected
+/// port.
 pub fn used(
     alloc: Global,
     connections: &[Connection],

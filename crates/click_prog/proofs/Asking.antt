@@ -1,4 +1,4 @@
--- What a parse of the command line gives.
+-- Lemmas on the parse of a command line.
 use Rattle.std.proofs.Common.{Result, Ok, Err, IfErr, IfOk}
 use Rattle.clap.specs.Built.{IsParsedFrom}
 use Rattle.clap.specs.Matches.{found_of}
@@ -9,13 +9,13 @@ use Rattle.click_prog.specs.declared.arguments.Options.{Options}
 use Rattle.click_prog.specs.declared.arguments.ArgumentRefusal.{ArgumentRefusal}
 use Rattle.click_prog.specs.declared.arguments.ArgumentRefusal.TheVariants as why
 
--- options that are just what a parse found are those of some parse
+-- options that this parse found are options that some parse found
 pub asked-of : {E : Type 0} (r : Result Options E) (command : Command) (matches : ArgMatches) → IsParsedFrom command matches → IfOk r (AsksFor (found_of matches))
     → IfOk r (λ options. (c : Command) × (m : ArgMatches) × IsParsedFrom c m × AsksFor (found_of m) options)
 asked-of (Ok options) command matches parsed asks = (command, matches, parsed, asks)
 asked-of (Err e) command matches parsed asks = tt
 
--- what a parse found is refused, so what some parse found is
+-- what this parse found is refused, so what some parse found is refused
 refused-of : (command : Command) (matches : ArgMatches) → IsParsedFrom command matches → (refusal : ArgumentRefusal) → IsRefusedFor (found_of matches) refusal → IsRefused refusal
 refused-of command matches parsed (why.Clap error) refused = tt
 refused-of command matches parsed (why.NoNumber number) refused = (command, matches, parsed, refused)

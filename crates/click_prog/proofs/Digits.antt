@@ -1,4 +1,4 @@
--- Texts of decimal digits.
+-- Lemmas on texts of decimal digits.
 use Rattle.std.proofs.Common.{◌≡◌, ◌&&◌, true, ℕ, List, [], ◌∷◌, refl, ap, ◌∙◌}
 use Rattle.std.specs.List.{list_all}
 use Rattle.std.specs.Char.{is_ascii_digit}
@@ -10,6 +10,6 @@ same-test : (text : List ℕ) → list_all is_ascii_digit text ≡ all_ascii_dig
 same-test [] = refl
 same-test (b ∷ text) = ap (λ t. is_ascii_digit b && t) (same-test text)
 
--- where a text has digits alone, the test says so
+-- if a text has only digits, the test says so
 pub tested : (text : List ℕ) → AllDigits 10 text → list_all is_ascii_digit text ≡ true
 tested text digits = same-test text ∙ (numerals_by_value (λ ds. all_ascii_digits ds ≡ true) tells_all_ascii_digits).from text digits

@@ -7,3 +7,12 @@ pub mod Opening
 pub mod Paged
 pub mod Spelling
 pub mod Quiet
+pub mod InputLines
+pub mod Replaying
+pub mod Peers
+pub mod Pieces
+pub mod Routers
+pub mod Passing
+pub mod Outputs
+pub mod Flushing
+pub mod OneWay

@@ -1,4 +1,4 @@
--- Links that values spell, one after another.
+-- Lemmas on parsing values as links, one after another.
 use Rattle.std.proofs.Common.{Bool, ◌≡◌, ◌<◌, ◌≤◌, ◌+◌, ◌∙◌, ℕ, zero, suc, List, [], ◌∷◌, ◌++◌, Bor, length, get_or, map, take, true, false, arith, sym, refl}
 use Rattle.std.specs.List.{AllPairs, AllZip, list_any}
 use Rattle.std.specs.Str.{bytes_eq}
@@ -10,11 +10,11 @@ use Rattle.std.proofs.lemmas.Slice.Zip.{AllZip-long, all_zipped_more}
 use Rattle.click_prog.specs.Links.{AreApart, AreLinks, IsLink, IsTwice}
 use Rattle.click_prog.specs.declared.link.Link.{Link}
 
--- the word spells the link
+-- the value is the link
 abbrev pub Spells : Bor (List ℕ) → Link → Type 0
 Spells value link = IsLink value.now link
 
--- a link of the device is there, by the test of the code
+-- a link of the device is in the list, by the test of the code
 abbrev has_device : List Link → List ℕ → Bool
 has_device links device = list_any (λ l. bytes_eq l.device.now device) links
 
@@ -31,7 +31,7 @@ spelled-at (v ∷ values) [] spelled k d e lt = absurd spelled
 spelled-at (v ∷ values) (l ∷ links) spelled zero d e lt = spelled.0
 spelled-at (v ∷ values) (l ∷ links) spelled (suc k) d e lt = spelled-at values links spelled.1 k d e (omega arith)
 
--- one link more
+-- one more link
 pub spelled-more : (values : List (Bor (List ℕ))) (links : List Link) (n : ℕ) (d : Bor (List ℕ)) (link : Link) → n < length values → AllZip Spells (take n values) links
     → IsLink (get_or values n d).now link → AllZip Spells (take (n + 1) values) (links ++ link ∷ [])
 spelled-more values links n d link lt so_far spells = rw (take_more values n d lt) (all_zipped_more Spells (take n values) links (get_or values n d) link so_far spells)
@@ -42,7 +42,7 @@ apart-more links link apart new = all_pairs_push AreApart links link apart (λ k
     let bad : false ≡ true = sym new ∙ found in
     cc)
 
--- a device that is there already, and comes again
+-- a device that is in the list already occurs again
 pub twice-of : (values : List (Bor (List ℕ))) (links : List Link) (n : ℕ) (d : Bor (List ℕ)) (link : Link) → n < length values → AllZip Spells (take n values) links
     → IsLink (get_or values n d).now link → has_device links link.device.now ≡ true → IsTwice (map (λ v. v.now) values) link.device.now
 twice-of values links n d link lt so_far spells found =
@@ -62,7 +62,7 @@ twice-of values links n d link lt so_far spells found =
       other = λ e. (link, rw (get_or-map (λ (v : Bor (List ℕ)). v.now) values n d e lt) spells, refl);
     }
 
--- all values were gone through
+-- all values were parsed
 pub links-of : (values : List (Bor (List ℕ))) (links : List Link) (n : ℕ) → length values ≤ n → length values ≤ 16 → AllZip Spells (take n values) links → AllPairs AreApart links
     → AreLinks (map (λ v. v.now) values) links
 links-of values links n all few spelled apart =

@@ -1,4 +1,4 @@
--- What a page does to its seat: it stays the seat that it is, and none of its calls is a Transmit.
+-- Lemmas on a page and its seat: the seat stays the same one, and none of its calls is a Transmit.
 use Rattle.std.proofs.Common.{◌≡◌, ℕ, Bool, false, List, Option, Some, None, Result, [], ◌∷◌, ◌++◌, refl, sym, ap, ◌∙◌, subst}
 use Rattle.std.specs.List.{All, AllZip}
 use Rattle.std.proofs.lemmas.List.Elements.{All-nil, All-cons, All-head, All-tail}
@@ -36,7 +36,7 @@ module _ {P : Type 0} (asks : P → Asked → Result Reply AskFault → P → Ty
       let k = chain-kept next requests new rest in
       (k.0 ∙ answers.same.0, k.1 ∙ answers.same.1)
 
-  -- a page that went through requests is one over what it left, as before
+  -- a page that answered requests is still a page at this port, over what answers its calls
   pub paged-over : (readonly : Bool) (at : ℕ) (old : P) (requests : List Call) (new : Paged P) → Chain (AnswersSo asks) (page_at old readonly at) requests new
       → IsPagedOver asks readonly at old new.port
   paged-over readonly at old requests new chain =

@@ -1,4 +1,5 @@
--- Of a run with links and other work beside it: that work makes no Transmit, so only the forwarder makes any.
+-- Lemmas on a run with links and other work: if the other work makes no Transmit, only the
+-- forwarder makes any.
 use Rattle.std.proofs.Common.{◌≡◌, ℕ, zero, suc, ◌+◌, Bool, List, [], ◌∷◌, ◌++◌, Result, Ok, Err, IfOk, refl, sym, subst}
 use Rattle.std.specs.List.{All}
 use Rattle.std.proofs.lemmas.List.Elements.{All-nil, All-push, All-tail}
@@ -9,7 +10,7 @@ use Rattle.click_workers.specs.Linked.{AreQuiet, AreQuietFrom, ForwardsBeside}
 use Rattle.click_workers.specs.declared.session.SessionEnd.{SessionEnd}
 use Rattle.click_workers.proofs.OtherSeats.{drop-behind}
 
--- a seat that has made no call, and one that has made no Transmit
+-- a seat that has made no call; a seat that has made no Transmit
 abbrev pub Idle : SeatState → Type 0
 Idle s = s.calls ≡ []
 
@@ -31,7 +32,7 @@ quiet-behind sittings many does quiet devices before after attends drives places
     let idle = subst (λ (l : List SeatState). All Idle l) (sym w.fresh.2) (new-idle w.fresh.0 w.fresh.1 (places + workers) (1 + many)) in
     subst (λ (l : List SeatState). All Quiet l) (sym rest) (quiet w.before.1 w.after.1 done (All-tail Idle w.before.0 (sittings w.before.1) idle) w.does.1)
 
--- what holds of each of two results holds of both where it is Ok
+-- four facts about an Ok result give a fifth
 pub all-ok : {X E : Type 0} (H W S L G : X → Type 0) → ((x : X) → H x → W x → S x → L x → G x) → (r : Result X E) → IfOk r H → IfOk r W → IfOk r S → IfOk r L → IfOk r G
 all-ok H W S L G f (Ok x) h w s l = f x h w s l
 all-ok H W S L G f (Err e) h w s l = tt

@@ -1,4 +1,4 @@
--- What a value of --link spells, from the pieces that it is cut into.
+-- Lemmas on a value of --link, from the pieces that it is split into.
 use Rattle.std.proofs.Common.{◌≡◌, ◌<◌, ℕ, List, Some, None, Bor, length, arith, inl, inr}
 use Rattle.std.proofs.lemmas.Str.Pattern.{IsSplitOnceResult}
 use Rattle.std.specs.Net.Grammar.{IsIpv4Text}
@@ -10,7 +10,7 @@ use Rattle.click_prog.specs.Numbers.{IsNoNumber, IsNumber}
 use Rattle.click_prog.specs.declared.link.Link.{Link}
 use Rattle.click_prog.proofs.Cuts.{cut-found, cut-none, cut-same}
 
--- what `split_once` gives of a text: its two pieces
+-- the two pieces that `split_once` returns
 abbrev Pieces : Type 0
 Pieces = Bor (List ℕ) × Bor (List ℕ)
 

@@ -1,4 +1,4 @@
--- What the words of a command line ask for.
+-- The options of a command line.
 use Rattle.std.specs.Prelude.{◌≡◌, ℕ, ◌≤◌, ◌⊎◌, List, [], length, Bool, true, false, Option, Some, None, codes, option_map}
 use Rattle.std.specs.Option.{option_map_or}
 use Rattle.clap.specs.Matches.{first_value, found_of, matched_of, one_text, raw_values}
@@ -15,18 +15,18 @@ use Rattle.click_prog.specs.Links.{AreLinks, IsLinkFault}
 use Rattle.click_prog.specs.Numbers.{IsNoNumber, IsNumber}
 use Rattle.click_prog.specs.Running.{Planned}
 
--- the number of an option that has this value, if it was given
+-- the number that was given to an option with this value, if it has one
 abbrev pub IsGiven : ℕ → ℕ → Option (List ℕ) → Option ℕ → Type 0
 IsGiven least most None number = number ≡ None
 IsGiven least most (Some text) None = ⊥
 IsGiven least most (Some text) (Some n) = IsNumber least most text n
 
--- the same, or the usual number where it was not given
+-- the number that was given to an option with this value, or `usual` if it has none
 abbrev pub IsGivenOr : ℕ → ℕ → ℕ → Option (List ℕ) → ℕ → Type 0
 IsGivenOr least most usual None n = n ≡ usual
 IsGivenOr least most usual (Some text) n = IsNumber least most text n
 
--- the option of this id, which takes numbers of this range, has a value that is none
+-- the option with this id has a value that is not a number of its range
 abbrev pub IsMistyped : Found → List ℕ → ℕ → ℕ → NoNumber → Type 0
 IsMistyped found id least most n = (first_value found id ≡ Some n.text.now) × (n.least ≡ least) × (n.most ≡ most) × IsNoNumber least most n.text.now
 
@@ -34,7 +34,7 @@ IsMistyped found id least most n = (first_value found id ≡ Some n.text.now) ×
 abbrev pub values_of : Found → List ℕ → List (List ℕ)
 values_of found id = option_map_or raw_values (matched_of found id) []
 
--- The options are what clap found: each number is just the one that was given, or the usual one.
+-- The options are those that clap found. Each number is the one that was given, or the usual one.
 pub record Finds (found : Found) (options : Options) : Type 0 where
   pub text : option_map (λ s. s.now) options.text ≡ first_value found (codes "text")
   pub readonly : IsFlag (one_text found (codes "readonly")) options.readonly
@@ -50,34 +50,35 @@ pub record Finds (found : Found) (options : Options) : Type 0 where
   pub tell : IsGivenOr 0 86400 0 (first_value found (codes "every")) options.tell
   pub draw : IsFlag (one_text found (codes "image")) options.draw
 
--- none of the numbers was given that only a run has
+-- no option with a number was given that only a run has
 abbrev pub HasNoNumber : Found → Type 0
 HasNoNumber found = (first_value found (codes "port") ≡ None) × (first_value found (codes "sessions") ≡ None) × (first_value found (codes "workers") ≡ None)
     × (first_value found (codes "number") ≡ None) × (first_value found (codes "every") ≡ None)
     × (first_value found (codes "front") ≡ None)
 
--- nor any other option
+-- no other option was given that only a run has
 abbrev pub HasNoWord : Options → Type 0
 HasNoWord options =
     (options.readonly ≡ false) × (options.check ≡ None) × (options.book ≡ false) × (options.live ≡ false) × (options.links.items ≡ [])
 
--- where a picture is asked for, nothing was given that only a run has
+-- if a picture is asked for, no option was given that only a run has
 abbrev pub DrawsAlone : Found → Options → Type 0
 DrawsAlone found options = options.draw ≡ true → HasNoNumber found × HasNoWord options
 
--- a router that stays was given no number of rounds, and nothing that is told at an end
+-- a live router was given no number of rounds, no check and no book
 abbrev pub GoesOn : Found → Options → Type 0
 GoesOn found options = options.live ≡ true → (first_value found (codes "number") ≡ None) × (options.check ≡ None) × (options.book ≡ false)
 
--- a router that ends was given no link, and no time after which it tells its counts
+-- a router that is not live was given no link, and no interval for printing counts
 abbrev pub Ends : Found → Options → Type 0
 Ends found options = options.live ≡ false → (options.links.items ≡ []) × (first_value found (codes "every") ≡ None)
 
--- the options are what clap found, and go together
+-- the options are those that clap found, and can be used together
 abbrev pub AsksFor : Found → Options → Type 0
 AsksFor found options = Finds found options × DrawsAlone found options × GoesOn found options × Ends found options
 
--- What was found is refused: a value is none of what its option takes, or what was given does not go together. What clap says is its own.
+-- The reason why the options that clap found are refused: a value is not valid, or the options
+-- cannot be used together. Nothing is said of an error of clap.
 abbrev pub IsRefusedFor : Found → ArgumentRefusal → Type 0
 IsRefusedFor found (why.Clap error) = Unit {0}
 IsRefusedFor found (why.NoNumber n) =
@@ -88,7 +89,7 @@ IsRefusedFor found (why.NotLive option) = (options : Options) × Finds found opt
 IsRefusedFor found (why.OnlyLive option) = (options : Options) × Finds found options × (Ends found options → ⊥)
 IsRefusedFor found (why.Link fault) = IsLinkFault (values_of found (codes "device")) fault
 
--- a refusal that is not clap's own is for what some parse found
+-- a refusal, unless it is an error of clap, is about what some parse found
 abbrev pub IsRefused : ArgumentRefusal → Type 0
 IsRefused (why.Clap error) = Unit {0}
 IsRefused refusal = (command : Command) × (matches : ArgMatches) × IsParsedFrom command matches × IsRefusedFor (found_of matches) refusal
@@ -102,7 +103,7 @@ pub record IsInRanges (options : Options) : Type 0 where
   pub links : length options.links.items ≤ 16
   pub tell : options.tell ≤ 86400
 
--- how many sessions come: one where there is no port
+-- the number of sessions: one if there is no port
 abbrev pub sessions_at : Option ℕ → ℕ → ℕ
 sessions_at None n = 1
 sessions_at (Some port) n = n

@@ -8,3 +8,15 @@ pub mod Linking
 pub mod Drawn
 pub mod Paging
 pub mod Serving
+pub mod CallsAsked
+pub mod InputLines
+pub mod Replays
+pub mod CallsStatuses
+pub mod Reading
+pub mod Writing
+pub mod Buffers
+pub mod Passages
+pub mod Carrying
+pub mod PassageFaults
+pub mod PcapStatuses
+pub mod Modes

@@ -19,9 +19,14 @@ use Rattle.click_prog.specs.Statuses.{opening_status, sessions_status}
 use Rattle.click_cli.specs.declared.status.Status.{Status}
 use Rattle.click_cli.specs.declared.status.Status.TheVariants as status
 
--- Places for sessions, drivers, a forwarder of these receivers' devices and other work were at one desk of this text that keeps nothing, each with a seat of its own, at a gate that they share; each place served so many sessions,
--- one after another; there is one history of one thread with just their calls and replies. By the link of each device just the packets of the replies to its Transmits in that history were sent, in order, after those
--- that were; and what each receiver heard is what was dropped for its cause, what the history polled of its device, and what is left.
+-- A run over a live desk of this text. Session slots, drivers, a forwarder of these receivers'
+-- devices, and other work each had seats of their own. Sessions and drivers shared a gate. Each
+-- session slot served `turns` sessions, one after another.
+--
+-- There is one history of one thread with exactly their calls and replies (`headline`). Over the
+-- link of each device exactly the packets in the replies to its Transmits in the history were sent,
+-- in order, after those sent before (`sent`). What each receiver received is what it dropped, for
+-- its cause, what the history polled of its device, and what is left (`links`).
 pub record HasLinked {D Rd Wr G Seats Done : Type 0} (sittings : Seats → List SeatState) (many : ℕ) (does : Seats → Seats → Done → Type 0) (lets_in : D → ℕ → Option (Rd × Wr) → Type 0) (input : Rd → Input) (output : Wr → Output) (gives : G → ℕ → ℕ → Bool → Type 0)
     (told : G → ℕ → ℕ → Type 0) (door : D) (readonly : Bool) (text : List ℕ) (places workers turns : ℕ) (receivers : List (Receiving Hearing)) (before : List Attempt) (book : BookState) (ended : List SessionEnd)
     (drivers : List Bool) (after : List Attempt) (ends : List (LinkEnd Hearing)) (done : Done) : Type 0 where
@@ -32,7 +37,7 @@ pub record HasLinked {D Rd Wr G Seats Done : Type 0} (sittings : Seats → List 
   pub sent : (device : List ℕ) → sent_by device after ≡ sent_by device before ++ gifts_by device (calls_in book.entries)
   pub links : SideBySide (λ (r : Receiving Hearing) (e : LinkEnd Hearing). (e.device ≡ r.device) × LinkRan book.entries r.device r.link.came e.link.came e.received.dropped (option_map (λ l. l.items) e.left)) receivers ends
 
--- the same, and the status is that of the places' last sessions
+-- a run of `HasLinked`, with the status of the last sessions of the session slots
 pub record HaveLinked {D Rd Wr G Seats Done : Type 0} (sittings : Seats → List SeatState) (many : ℕ) (does : Seats → Seats → Done → Type 0) (lets_in : D → ℕ → Option (Rd × Wr) → Type 0) (input : Rd → Input) (output : Wr → Output) (gives : G → ℕ → ℕ → Bool → Type 0)
     (told : G → ℕ → ℕ → Type 0) (door : D) (readonly : Bool) (text : List ℕ) (places workers turns : ℕ) (receivers : List (Receiving Hearing)) (before : List Attempt) (s : Status) : Type 0 where
   pub book : BookState
@@ -44,32 +49,33 @@ pub record HaveLinked {D Rd Wr G Seats Done : Type 0} (sittings : Seats → List
   pub ran : HasLinked sittings many does lets_in input output gives told door readonly text places workers turns receivers before book ended drivers after ends done
   pub is : s ≡ sessions_status ended
 
--- There was no desk of so many seats with links of these devices, and the status is that of the fault.
+-- There was no desk of this number of seats with links of these devices. The status is that of the
+-- fault.
 pub record HaveNotLinked (seats : ℕ) (devices : List (List ℕ)) (text : List ℕ) (s : Status) : Type 0 where
   pub fault : OpenFault
   pub true_fault : IsTrueOpening seats devices text fault
   pub is : s ≡ opening_status fault
 
--- A run with links and other work, none, or no memory to begin.
+-- A run with links and other work. Or no run, or no memory to begin one.
 abbrev pub LinkedBesideTo : {D Rd Wr G Seats Done : Type 0} → (Seats → List SeatState) → ℕ → (Seats → Seats → Done → Type 0) → (D → ℕ → Option (Rd × Wr) → Type 0) → (Rd → Input) → (Wr → Output)
     → (G → ℕ → ℕ → Bool → Type 0) → (G → ℕ → ℕ → Type 0) → D → Bool → List ℕ → ℕ → ℕ → ℕ → List (Receiving Hearing) → List Attempt → Status → Type 0
 LinkedBesideTo sittings many does lets_in input output gives told door readonly text places workers turns receivers before s =
     HaveLinked sittings many does lets_in input output gives told door readonly text places workers turns receivers before s
     ⊎ HaveNotLinked (places + workers + (1 + many)) (map (λ (r : Receiving Hearing). r.device) receivers) text s ⊎ (s ≡ status.NoMemory)
 
--- with no other work
+-- a run with links and no other work
 abbrev pub LinkedRunTo : {D Rd Wr G : Type 0} → (D → ℕ → Option (Rd × Wr) → Type 0) → (Rd → Input) → (Wr → Output) → (G → ℕ → ℕ → Bool → Type 0) → (G → ℕ → ℕ → Type 0)
     → D → Bool → List ℕ → ℕ → ℕ → ℕ → List (Receiving Hearing) → List Attempt → Status → Type 0
 LinkedRunTo lets_in input output gives told door readonly text places workers turns receivers before s =
     LinkedBesideTo (λ (_ : Unit {0}). []) 0 (λ _ _ (_ : Unit {0}). Unit {0}) lets_in input output gives told door readonly text places workers turns receivers before s
 
--- with a page at this port, whose seat is the last
+-- a run with links and a page at this port, which has the last seat
 abbrev pub LinkedPageTo : {D Rd Wr G : Type 0} → (D → ℕ → Option (Rd × Wr) → Type 0) → (Rd → Input) → (Wr → Output) → (G → ℕ → ℕ → Bool → Type 0) → (G → ℕ → ℕ → Type 0)
     → ℕ → D → Bool → List ℕ → ℕ → ℕ → ℕ → List (Receiving Hearing) → List Attempt → Status → Type 0
 LinkedPageTo lets_in input output gives told at door readonly text places workers turns receivers before s =
     LinkedBesideTo (λ seat. seat ∷ []) 1 (λ old new (_ : Ended). IsPaged readonly at old new) lets_in input output gives told door readonly text places workers turns receivers before s
 
--- with a page at this port or with none, as a plan has it
+-- a run of a plan with links, and with a page at this port if there is one
 abbrev pub LinkedTo : {D Rd Wr G : Type 0} → (D → ℕ → Option (Rd × Wr) → Type 0) → (Rd → Input) → (Wr → Output) → (G → ℕ → ℕ → Bool → Type 0) → (G → ℕ → ℕ → Type 0)
     → Option ℕ → D → Planned → List ℕ → ℕ → List (Receiving Hearing) → List Attempt → Status → Type 0
 LinkedTo lets_in input output gives told None door plan text turns receivers before s =

@@ -1,4 +1,4 @@
--- What the values of --link spell.
+-- Values of --link as links.
 use Rattle.std.specs.Prelude.{◌≡◌, ℕ, ◌<◌, ◌≤◌, ◌⊎◌, List, [], ◌∷◌, ◌++◌, length, slice_index}
 use Rattle.std.specs.List.{AllPairs, AllZip, Contains, slice_index_or}
 use Rattle.std.specs.Net.Addr.{ipv4_octets}
@@ -12,12 +12,12 @@ use Rattle.click_prog.specs.declared.link.Link.{Link}
 use Rattle.click_prog.specs.declared.link.LinkFault.{LinkFault}
 use Rattle.click_prog.specs.declared.link.LinkFault.TheVariants.{NoMemory, NoLink, Twice, TooMany}
 
--- the text, cut at the first of these bytes
+-- the text is split at the first one of these bytes
 pub record IsCut (byte : ℕ) (text before after : List ℕ) : Type 0 where
   pub spelled : text ≡ before ++ byte ∷ after
   pub first : (k : ℕ) → k < length before → slice_index before k ≡ byte → ⊥
 
--- the text has an IPv4 address before its first `:`, and behind it a port
+-- the text is an IPv4 address, then `:`, then a port
 pub record IsAddressed (text : List ℕ) (place : SocketAddrV4) : Type 0 where
   pub address : List ℕ
   pub port : List ℕ
@@ -25,23 +25,24 @@ pub record IsAddressed (text : List ℕ) (place : SocketAddrV4) : Type 0 where
   pub ip : IsIpv4Text address (v4_ip place)
   pub number : IsNumber 1 65535 port (v4_port place)
 
--- the text has no such thing
+-- the text is not an IPv4 address with a port
 abbrev pub IsUnaddressed : List ℕ → Type 0
 IsUnaddressed text = (place : SocketAddrV4) → IsAddressed text place → ⊥
 
--- the text is a port alone, which is one of 127.0.0.1
+-- the text is a port alone, which means one of 127.0.0.1
 abbrev pub IsOwnPort : List ℕ → SocketAddrV4 → Type 0
 IsOwnPort text place = IsNumber 1 65535 text (v4_port place) × (ipv4_octets (v4_ip place) ≡ 127 ∷ 0 ∷ 0 ∷ 1 ∷ [])
 
--- the text names this place
+-- the text means this address
 abbrev pub IsPlace : List ℕ → SocketAddrV4 → Type 0
 IsPlace text place = IsOwnPort text place ⊎ IsAddressed text place
 
--- the text names no place
+-- the text means no address
 abbrev pub IsNoPlace : List ℕ → Type 0
 IsNoPlace text = (place : SocketAddrV4) → IsPlace text place → ⊥
 
--- the value has the device before its first `=`, which is not empty, and behind it the two places, before and behind the first `,` there
+-- The value is a device, then `=`, then two addresses with a comma between them. The device is not
+-- empty and has no `=`.
 pub record IsLink (value : List ℕ) (link : Link) : Type 0 where
   pub places : List ℕ
   pub near : List ℕ
@@ -52,15 +53,15 @@ pub record IsLink (value : List ℕ) (link : Link) : Type 0 where
   pub here : IsPlace near link.here
   pub there : IsPlace far link.there
 
--- the value is no link
+-- the value is not a link
 abbrev pub IsNoLink : List ℕ → Type 0
 IsNoLink value = (link : Link) → IsLink value link → ⊥
 
--- the two are of different devices
+-- the two links have different devices
 abbrev pub AreApart : Link → Link → Type 0
 AreApart a b = a.device.now ≡ b.device.now → ⊥
 
--- the values spell these links, one each, in order: 16 at most, no two of one device
+-- the values are these links, one each, in order: at most 16, no two of one device
 pub record AreLinks (values : List (List ℕ)) (links : List Link) : Type 0 where
   pub each : AllZip IsLink values links
   pub few : length links ≤ 16
@@ -79,13 +80,13 @@ pub record IsTwice (values : List (List ℕ)) (device : List ℕ) : Type 0 where
   pub one : (d : List ℕ) → IsLinkOf (slice_index_or values first d) device
   pub other : (d : List ℕ) → IsLinkOf (slice_index_or values later d) device
 
--- why values are refused
+-- the reason why values are refused
 abbrev pub IsLinkFault : List (List ℕ) → LinkFault → Type 0
 IsLinkFault values NoMemory = Unit {0}
 IsLinkFault values (NoLink value) = Contains values value.now × IsNoLink value.now
 IsLinkFault values (Twice device) = IsTwice values device.now
 IsLinkFault values TooMany = 16 < length values
 
--- the line over which the packets of a link's device go: from HERE to THERE
+-- the line over which the packets of a link's device are sent: from HERE to THERE
 abbrev pub line_of : Link → Line
 line_of link = record { device = link.device.now; here = socket.V4 link.here; there = socket.V4 link.there }

@@ -1,4 +1,4 @@
--- A run with a page beside its sessions, and its status.
+-- A run with a page for browsers, and its status.
 use Rattle.std.specs.Prelude.{◌≡◌, ◌⊎◌, ℕ, ◌+◌, List, [], ◌∷◌, Bool, true, false, Option, Some, None, Result}
 use Rattle.http_server.specs.Exchange.{Call, Chain}
 use Rattle.click_control.specs.Peers.{Input, Output}
@@ -18,30 +18,36 @@ use Rattle.click_prog.specs.Running.{Planned, HaveNotRun}
 use Rattle.click_prog.specs.Statuses.{sessions_status}
 use Rattle.click_cli.specs.declared.status.Status.{Status}
 
--- a page over what answers its calls, at this port
+-- a page at this port of the machine, over the port that answers its calls
 abbrev pub page_at : {P : Type 0} → P → Bool → ℕ → Paged P
 page_at port readonly at = record { port = port; readonly = readonly; at = at }
 
--- The page at this port answered requests, one after another: of what answers its calls it asked just their commands, and gave just the answers that these are told as; so it left that.
+-- The page answered requests, one after another. It made exactly the calls of their commands, and
+-- each response reports exactly the answers to its calls, or out of memory. These calls took what
+-- answers them from `old` to `new`.
 abbrev pub IsPagedOver : {P : Type 0} → (P → Asked → Result Reply AskFault → P → Type 0) → Bool → ℕ → P → P → Type 0
 IsPagedOver asks readonly at old new = (requests : List Call) × Chain (AnswersSo asks) (page_at old readonly at) requests (page_at new readonly at)
 
--- the same over a seat
+-- a page that answered requests over a seat
 abbrev pub IsPaged : Bool → ℕ → SeatState → SeatState → Type 0
 IsPaged readonly at old new = IsPagedOver SeatAsks readonly at old new
 
--- a run that ends keeps a book of 1,048,576 entries, and one that stays keeps none
+-- a run that ends keeps a book with room for 1,048,576 entries; a live one keeps none
 abbrev pub room_of : Bool → Option ℕ
 room_of true = None
 room_of false = Some 1048576
 
--- drivers of a run that ends make so many rounds each, and those of one that stays go on
+-- each driver of a run that ends makes this number of rounds; those of a live one go on
 abbrev pub rounds_of : Bool → ℕ → Option ℕ
 rounds_of true rounds = None
 rounds_of false rounds = Some rounds
 
--- Places for sessions, drivers and a page were at one desk of this text, each with a seat of its own; each place served so many sessions, one after another; the desk's book is a history of one thread with just
--- their calls and replies, and the page's seat, which is the last, made just the calls of the requests that it answered; the status is that of the places' last sessions.
+-- A run over a desk of this text. Session slots, drivers and a page had a seat each, and the page
+-- the last one. Each session slot served `turns` sessions, one after another.
+--
+-- The desk's book is a history of one thread with exactly their calls and replies. The page made
+-- exactly the calls of the requests that it answered. The status is that of the last sessions of
+-- the session slots.
 pub record HavePaged {D Rd Wr G : Type 0} (lets_in : D → ℕ → Option (Rd × Wr) → Type 0) (input : Rd → Input) (output : Wr → Output) (gives : G → ℕ → ℕ → Bool → Type 0)
     (told : G → ℕ → ℕ → Type 0) (door : D) (plan : Planned) (text : List ℕ) (turns at : ℕ) (s : Status) : Type 0 where
   pub gate : G

@@ -1,4 +1,4 @@
--- A run over one seat, and its status.
+-- A run, and its status.
 use Rattle.std.specs.Prelude.{◌≡◌, ◌⊎◌, ℕ, ◌+◌, List, Bool, Option, None, false, Result}
 use Rattle.click_control.specs.Peers.{Input, Output}
 use Rattle.click_control.specs.declared.serving.Ended.{Ended}
@@ -11,7 +11,8 @@ use Rattle.click_workers.specs.declared.runs.RunFault.{RunFault}
 use Rattle.click_prog.specs.Statuses.{end_status, fault_status, sessions_status}
 use Rattle.click_cli.specs.declared.status.Status.{Status}
 
--- How many sessions and drivers there are, how many rounds each driver makes, whether sessions may only read, and whether the router stays.
+-- The plan of a run: the numbers of sessions and of drivers, the number of rounds of each driver,
+-- whether sessions may only read, and whether the router is live.
 pub record Planned : Type 0 where
   pub sessions : ℕ
   pub workers : ℕ
@@ -19,7 +20,8 @@ pub record Planned : Type 0 where
   pub readonly : Bool
   pub live : Bool
 
--- The session was over the one seat of a desk of this text, the desk's book is a history of one thread, and the status is that of the session's end.
+-- A session ran over the one seat of a desk of this text. The desk's book is a history of one
+-- thread. The status is that of the session's end.
 pub record HasRun (text : List ℕ) (readonly : Bool) (had left : Input) (held holds : Output) (s : Status) : Type 0 where
   pub book : BookState
   pub headline : Headline text 1 book
@@ -27,8 +29,8 @@ pub record HasRun (text : List ℕ) (readonly : Bool) (had left : Input) (held h
   pub ran : RanOver text readonly book had left held holds ended
   pub is : s ≡ end_status ended
 
--- Sessions and drivers were at one desk of this text, each with a seat of its own, at a gate that they share; the desk's book is a history of one thread, and
--- the status is that of the sessions' ends.
+-- Sessions and drivers ran over one desk of this text, each with a seat of its own, and shared a
+-- gate. The desk's book is a history of one thread. The status is that of the sessions' ends.
 pub record HaveRun {D Rd Wr G : Type 0} (lets_in : D → ℕ → Option (Rd × Wr) → Type 0) (input : Rd → Input) (output : Wr → Output) (gives : G → ℕ → ℕ → Bool → Type 0)
     (told : G → ℕ → ℕ → Type 0) (door : D) (readonly : Bool) (text : List ℕ) (sessions workers rounds : ℕ) (s : Status) : Type 0 where
   pub gate : G
@@ -39,8 +41,11 @@ pub record HaveRun {D Rd Wr G : Type 0} (lets_in : D → ℕ → Option (Rd × W
   pub worked : Worked (Attended lets_in input output gives told door gate readonly) (Drove gives told gate rounds) sessions (sessions + workers) book.seats ended drivers
   pub is : s ≡ sessions_status ended
 
--- Places for sessions and drivers were at one desk of this text that keeps nothing, each with a seat of its own, at a gate that they share, and each place served so
--- many sessions, one after another; there is one history of one thread with just their calls and replies, and the status is that of the places' last sessions.
+-- Session slots and drivers ran over one live desk of this text, each with a seat of its own, and
+-- shared a gate. Each session slot served `turns` sessions, one after another.
+--
+-- There is one history of one thread with exactly their calls and replies. The status is that of
+-- the last sessions of the session slots.
 pub record HaveLived {D Rd Wr G : Type 0} (lets_in : D → ℕ → Option (Rd × Wr) → Type 0) (input : Rd → Input) (output : Wr → Output) (gives : G → ℕ → ℕ → Bool → Type 0)
     (told : G → ℕ → ℕ → Type 0) (door : D) (readonly : Bool) (text : List ℕ) (places workers turns : ℕ) (s : Status) : Type 0 where
   pub gate : G
@@ -72,18 +77,18 @@ pub record HasNotRun (text : List ℕ) (had left : Input) (held holds : Output) 
   pub unwritten : holds ≡ held
   pub is : s ≡ fault_status fault
 
--- A run over the text with this reader and this writer, each before and after it, and its status.
+-- A run over the text with this source and this sink, each before and after it, and its status.
 abbrev pub RunsTo : List ℕ → Bool → Input → Input → Output → Output → Status → Type 0
 RunsTo text readonly had left held holds s = HasRun text readonly had left held holds s ⊎ HasNotRun text had left held holds s
 
--- A reader that has neither read nor failed, and a writer that has not failed, with these bytes.
+-- A source that has neither read nor failed, and a sink that has not failed, with these bytes.
 abbrev pub fresh_input : Option (List ℕ) → Input
 fresh_input bytes = record { remaining = bytes; failed = false; reads = 0 }
 
 abbrev pub fresh_output : Option (List ℕ) → Output
 fresh_output bytes = record { contents = bytes; failed = false }
 
--- a run over the text with some reader and some writer that were fresh
+-- a run over the text, with some fresh source and some fresh sink
 abbrev pub RunsAlone : List ℕ → Bool → Status → Type 0
 RunsAlone text readonly s =
     (input : Option (List ℕ)) × (output : Option (List ℕ)) × (left : Input) × (holds : Output) × RunsTo text readonly (fresh_input input) left (fresh_output output) holds s

@@ -7,16 +7,17 @@ use Rattle.click_prog.specs.Running.{Planned, AllRunTo, LiveRunTo}
 use Rattle.click_prog.specs.declared.linking.OpenedLinks.{OpenedLinks}
 use Rattle.click_cli.specs.declared.status.Status.{Status}
 
--- whether a session on standard input and output is all that there is: nothing is beside it, no driver either, and the router ends
+-- The run is one session on standard input and output. Nothing runs in parallel, no driver either,
+-- and the router is not live.
 abbrev pub is_alone : Bool → Planned → Bool
 is_alone beside plan = not beside && (not plan.live && plan.workers == 0)
 
--- of a router that stays each place over TCP serves 2^64 - 1 sessions, of one that ends one
+-- the number of sessions over TCP in each session slot: 2^64 - 1 for a live router, else 1
 abbrev pub turns_of : Bool → ℕ
 turns_of true = 18446744073709551615
 turns_of false = 1
 
--- sessions and drivers alone, of a router that stays or of one that ends
+-- a run with sessions and drivers only, live or not
 abbrev pub PlainTo : {D Rd Wr G : Type 0} → (D → ℕ → Option (Rd × Wr) → Type 0) → (Rd → Input) → (Wr → Output) → (G → ℕ → ℕ → Bool → Type 0) → (G → ℕ → ℕ → Type 0)
     → Bool → Planned → List ℕ → ℕ → D → Status → Type 0
 PlainTo lets_in input output gives told true plan text turns door s =
@@ -24,7 +25,7 @@ PlainTo lets_in input output gives told true plan text turns door s =
 PlainTo lets_in input output gives told false plan text turns door s =
     AllRunTo lets_in input output gives told door plan.readonly text plan.sessions plan.workers plan.rounds s
 
--- the same, with links and with a page at this port where there are any
+-- a run with links and with a page at this port, if there are any
 abbrev pub ServesTo : {D Rd Wr G : Type 0} → (D → ℕ → Option (Rd × Wr) → Type 0) → (Rd → Input) → (Wr → Output) → (G → ℕ → ℕ → Bool → Type 0) → (G → ℕ → ℕ → Type 0)
     → Option OpenedLinks → Option ℕ → Planned → List ℕ → ℕ → D → Status → Type 0
 ServesTo lets_in input output gives told (Some links) page plan text turns door s =
@@ -32,7 +33,7 @@ ServesTo lets_in input output gives told (Some links) page plan text turns door 
 ServesTo lets_in input output gives told None (Some at) plan text turns door s = PagedRunTo lets_in input output gives told door plan text turns at s
 ServesTo lets_in input output gives told None None plan text turns door s = PlainTo lets_in input output gives told plan.live plan text turns door s
 
--- at some door of this kind
+-- a run of `ServesTo` at some door of this kind
 abbrev pub ServesFrom : {D Rd Wr G : Type 0} → (D → ℕ → Option (Rd × Wr) → Type 0) → (Rd → Input) → (Wr → Output) → (G → ℕ → ℕ → Bool → Type 0) → (G → ℕ → ℕ → Type 0)
     → Option OpenedLinks → Option ℕ → Planned → List ℕ → ℕ → Status → Type 0
 ServesFrom {D} {Rd} {Wr} {G} lets_in input output gives told links page plan text turns s =

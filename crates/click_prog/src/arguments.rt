@@ -1,4 +1,4 @@
-//! The program's command line.
+//! The command line of the mode that serves sessions or draws a picture.
 
 ghost use Rattle.std.specs.Prelude.{◌≡◌, ◌≤◌, IfOk, IfErr, IfSome, MatchOption, codes, is_some, true};
 ghost use Rattle.clap.specs.Built.{IsParsedFrom};
@@ -14,41 +14,43 @@ use clap::{ArgMatches, Command, Error};
 use click_cli::{CommandOption, OptionName, TEXT, Takes, parse};
 use std::alloc::Global;
 
-/// What the words of a command line ask for.
+/// The options of a command line.
 #[derive(Debug, Drop)]
 pub struct Options<'a> {
     /// The configuration.
     pub text: Option<&'a str>,
-    /// Whether the sessions may only read.
+    /// Whether sessions and the page may only read.
     pub readonly: bool,
-    /// Where it listens on 127.0.0.1; none: one session on standard input and output.
+    /// The port of 127.0.0.1 for sessions over TCP; without it there is one session, on standard
+    /// input and output.
     pub port: Option<u16>,
-    /// Where on 127.0.0.1 a page shows the router to browsers; none: nowhere.
+    /// The port of 127.0.0.1 at which a page shows the router in a browser, if there is a page.
     pub page: Option<u16>,
-    /// How many sessions it accepts.
+    /// The number of sessions over TCP (1 to 64); with `live`, the number at the same time.
     pub sessions: usize,
-    /// How many workers drive the router.
+    /// The number of drivers (0 to 16).
     pub workers: usize,
-    /// How many rounds each worker makes.
+    /// The number of rounds of each driver (0 to 1,000,000).
     pub rounds: u64,
     /// The handler that is checked at the end.
     pub check: Option<&'a str>,
     /// Whether the book is written at the end.
     pub book: bool,
-    /// Whether the router stays: it keeps no book, and serves until the process ends.
+    /// Whether the router is live: it keeps no book, and serves until the process ends.
     pub live: bool,
-    /// The links, each of a device of its own, 16 at most; none where the router ends.
+    /// The links, at most 16 and each of another device. There are none without `live`.
     pub links: Vec<Link<'a>>,
-    /// After how many seconds each it tells its counts; 0: never, and so where the router ends.
+    /// The interval at which the counts of links are printed, in seconds (0 to 86,400). 0 means
+    /// never, and is the value without `live`.
     pub tell: u64,
-    /// Whether a picture is drawn, and nothing served.
+    /// Whether a picture is drawn, and no session served.
     pub draw: bool,
 }
 
-/// Why a command line is refused.
+/// The reason why a command line is refused.
 #[derive(Drop)]
 pub enum ArgumentRefusal<'a> {
-    /// What clap has to say of it; help is asked for so too.
+    /// An error of clap; a request for help or for the version is one too.
     Clap(Error),
     NoNumber(NoNumber<'a>),
     NotDrawn(NotDrawn),
@@ -79,28 +81,29 @@ impl<'a> From<LinkFault<'a>> for ArgumentRefusal<'a> {
     }
 }
 
-/// What a picture has no use for: there is no run.
+/// The option that was given with `--draw`, which makes no run.
 #[derive(Clone, Copy, Debug, Drop, thiserror::Error)]
 #[error("--draw takes no {option}")]
 pub struct NotDrawn {
     option: &'static str,
 }
 
-/// What a router that stays has no use for: its drivers go on, and nothing is told at an end.
+/// The option that was given with `--live`, under which drivers go on without end and nothing is
+/// reported at an end.
 #[derive(Clone, Copy, Debug, Drop, thiserror::Error)]
 #[error("--live takes no {option}")]
 pub struct NotLive {
     option: &'static str,
 }
 
-/// What only a router that stays has: links, and counts that are told while it runs.
+/// The option that was given without `--live`: a link, or the interval at which counts are printed.
 #[derive(Clone, Copy, Debug, Drop, thiserror::Error)]
 #[error("{option} needs --live")]
 pub struct OnlyLive {
     option: &'static str,
 }
 
-/// What was given where an option takes a number from `least` to `most`, in decimal digits alone, and is none.
+/// The value of an option that is not a number from `least` to `most` in decimal digits.
 #[derive(Clone, Copy, Debug, Drop, thiserror::Error)]
 #[error("{option} takes a number from {least} to {most} in decimal digits, and '{text}' is none")]
 pub struct NoNumber<'a> {
@@ -110,7 +113,7 @@ pub struct NoNumber<'a> {
     most: u64,
 }
 
-/// The options that the words may have.
+/// The options of the command line.
 const OPTIONS: [CommandOption; 13] = [
     TEXT,
     CommandOption {
@@ -153,7 +156,7 @@ const OPTIONS: [CommandOption; 13] = [
         id: "book",
         name: OptionName::Long("book"),
         takes: Takes::Nothing,
-        help: "At the end writes each call with its seat and its reply to standard error, as lines that click_calls --replay makes again",
+        help: "At the end writes each call with its seat and its reply to standard error, as lines that --calls --replay makes again",
     },
     CommandOption {
         id: "live",
@@ -187,12 +190,14 @@ const OPTIONS: [CommandOption; 13] = [
     },
 ];
 
-/// What the words of a command line ask for, or why they are refused. `-e` takes the next word whatever it is.
+/// Returns the options of a command line, or the reason why it is refused.
+///
+/// `-e` takes the next word literally, even if it begins with `-`.
 pub fn options_of<'a>(
     alloc: Global,
     words: &'a [String],
 ) -> Result<Options<'a>, ArgumentRefusal<'a>>
-    // Where they are not refused there is a text.
+    // A command line that is not refused has a text.
     ensures text { IfOk result (λ options. is_some options.text ≡ true) }
     ensures port { IfOk result (λ options. IfSome options.port (λ port. 1 ≤ port) × IfSome options.page (λ port. 1 ≤ port)) }
     ensures ranges { IfOk result IsInRanges }
@@ -205,7 +210,7 @@ pub fn options_of<'a>(
     }
 }
 
-/// What clap finds in the words.
+/// Parses a command line by clap.
 fn parsed<'a>(alloc: Global, words: &'a [String]) -> Result<ArgMatches<'a>, Error>
     ensures text { IfOk result (λ matches. is_some (first_value (found_of matches) (codes "text")) ≡ true) }
     ensures parsed { IfOk result (λ matches. (command : Command) × IsParsedFrom command matches) }
@@ -214,13 +219,13 @@ fn parsed<'a>(alloc: Global, words: &'a [String]) -> Result<ArgMatches<'a>, Erro
         .version("1")
         .about("A Click router with control sessions on standard input and output")
         .after_help(
-            "Commands of a session, a line each: READ NAME [TEXT], WRITE NAME [TEXT], READDATA NAME BYTES, WRITEDATA NAME BYTES,\nCHECKREAD NAME, CHECKWRITE NAME, QUIT. NAME is a handler, as c.count of the element c. docs/CONTROL.md has the replies.",
+            "Two more modes, where the first word names them; each has options and a --help of its own:\n--calls answers calls, one a line, on standard input and output, or makes those of a book again;\n--pcap takes a capture from standard input through the router and writes one to standard output.\n\nCommands of a session, a line each: READ NAME [TEXT], WRITE NAME [TEXT], READDATA NAME BYTES, WRITEDATA NAME BYTES,\nCHECKREAD NAME, CHECKWRITE NAME, QUIT. NAME is a handler, as c.count of the element c. docs/CONTROL.md has the replies.",
         );
     let matches = parse(alloc, command, &OPTIONS, words)?;
     Ok(matches)
 }
 
-/// What was found in the words, where that goes together.
+/// Returns the options that clap found, if they can be used together.
 fn options_in<'a>(
     alloc: Global,
     matches: &ArgMatches<'a>,
@@ -241,7 +246,7 @@ fn options_in<'a>(
     }
 }
 
-/// What was found in the words.
+/// Returns the options that clap found, if their values are valid.
 fn options_found<'a>(
     alloc: Global,
     matches: &ArgMatches<'a>,
@@ -266,7 +271,7 @@ fn options_found<'a>(
     })
 }
 
-/// The links that were given.
+/// Returns the links that were given.
 fn links_found<'a>(alloc: Global, matches: &ArgMatches<'a>) -> Result<Vec<Link<'a>>, LinkFault<'a>>
     ensures links { IfOk result (λ links. AreLinks (values_of (found_of matches.now) (codes "device")) links.items) }
     ensures refused { IfErr result (IsLinkFault (values_of (found_of matches.now) (codes "device"))) }
@@ -277,7 +282,7 @@ fn links_found<'a>(alloc: Global, matches: &ArgMatches<'a>) -> Result<Vec<Link<'
     }
 }
 
-/// Where a picture is drawn, the first option that was given of those which only a run has.
+/// Returns the first option that was given with `--draw` and that only a run has.
 fn run_only_option(matches: &ArgMatches, options: &Options) -> Option<&'static str>
     ensures { MatchOption result (DrawsAlone (found_of matches.now) options.now) (λ _. DrawsAlone (found_of matches.now) options.now → ⊥) }
 {
@@ -290,7 +295,7 @@ fn run_only_option(matches: &ArgMatches, options: &Options) -> Option<&'static s
     }
 }
 
-/// The first number that was given of those which only a run has.
+/// Returns the first option with a number that was given and that only a run has.
 fn run_only_number(matches: &ArgMatches) -> Option<&'static str>
     ensures { MatchOption result (HasNoNumber (found_of matches.now)) (λ _. HasNoNumber (found_of matches.now) → ⊥) }
 {
@@ -315,7 +320,7 @@ fn run_only_number(matches: &ArgMatches) -> Option<&'static str>
     None
 }
 
-/// The first option that was given of those which only a run has and which are no numbers.
+/// Returns the first option without a number that was given and that only a run has.
 fn run_only_word(found: &Options) -> Option<&'static str>
     ensures { MatchOption result (HasNoWord found.now) (λ _. HasNoWord found.now → ⊥) }
 {
@@ -337,7 +342,7 @@ fn run_only_word(found: &Options) -> Option<&'static str>
     None
 }
 
-/// Where the router stays, the first option that was given of those which only a run that ends has.
+/// Returns the first option that was given with `--live` and that only a run with an end has.
 fn ending_only_option(matches: &ArgMatches, options: &Options) -> Option<&'static str>
     ensures { MatchOption result (GoesOn (found_of matches.now) options.now) (λ _. GoesOn (found_of matches.now) options.now → ⊥) }
 {
@@ -356,7 +361,7 @@ fn ending_only_option(matches: &ArgMatches, options: &Options) -> Option<&'stati
     None
 }
 
-/// Where the router ends, the first option that was given of those which only one that stays has.
+/// Returns the first option that was given without `--live` and that only a live router has.
 fn live_only_option(matches: &ArgMatches, options: &Options) -> Option<&'static str>
     ensures { MatchOption result (Ends (found_of matches.now) options.now) (λ _. Ends (found_of matches.now) options.now → ⊥) }
 {
@@ -372,7 +377,7 @@ fn live_only_option(matches: &ArgMatches, options: &Options) -> Option<&'static 
     None
 }
 
-/// The port that was given to the option, if one was.
+/// Returns the port that was given to an option, if one was.
 fn port_of<'a>(
     matches: &ArgMatches<'a>,
     id: &str,
@@ -387,7 +392,7 @@ fn port_of<'a>(
     }
 }
 
-/// The number that was given, or the usual one.
+/// Returns the number that was given to an option, or `usual` if none was.
 fn number_of<'a>(
     matches: &ArgMatches<'a>,
     id: &str,
@@ -407,7 +412,7 @@ fn number_of<'a>(
     }
 }
 
-/// The number that was given to the option, if one was.
+/// Returns the number that was given to an option, if one was.
 fn given<'a>(
     matches: &ArgMatches<'a>,
     id: &str,

@@ -1,4 +1,4 @@
-//! A book, written as lines.
+//! Writing a book as lines.
 
 ghost use Rattle.std.specs.Prelude.{◌≡◌, ◌++◌, ◌∷◌, [], true, is_some, IfOk, OnOk};
 ghost use Rattle.std.specs.Io.KnownBytes.{Appends};
@@ -33,7 +33,7 @@ fn write_entry<W: Write>(alloc: Global, to: &mut W, entry: &Entry) -> io::Result
     to.write_all(&line)
 }
 
-/// Room for the packet of a reply, where it sends one.
+/// Allocates the room for the packet of a reply, if it has one.
 fn room_for(alloc: Global, reply: &StoredReply) -> Result<Option<PacketRoom>, AllocError>
     ensures { IfOk result (λ room. sends_packet reply.now ≡ true → is_some room ≡ true) }
 {

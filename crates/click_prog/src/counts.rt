@@ -1,4 +1,4 @@
-//! What is told of links.
+//! Printing the counts of links.
 
 use click_links::{CountSnapshot, Device};
 use itoa::Buffer;
@@ -8,7 +8,7 @@ use std::sync::atomic::{AtomicBool, Ordering};
 use std::thread::Parker;
 use std::time::Duration;
 
-/// Whether a run has ended, and how whoever tells of it meanwhile is woken.
+/// Whether a run has ended, and the parker at which the printing thread sleeps until then.
 #[derive(Drop)]
 pub struct Ending {
     ended: AtomicBool,
@@ -16,7 +16,7 @@ pub struct Ending {
 }
 
 impl Ending {
-    /// It has not.
+    /// Returns the state of a run that has not ended.
     pub fn new() -> Ending {
         Ending {
             ended: AtomicBool::new(false),
@@ -24,14 +24,15 @@ impl Ending {
         }
     }
 
-    /// It has.
+    /// Records that the run has ended, and wakes the printing thread.
     pub fn set(&self) {
         self.ended.store(true, Ordering::SeqCst);
         self.wake.unpark();
     }
 }
 
-/// Tells the counts of each link after each so many seconds, never after none, until the run has ended.
+/// Prints the counts of each link every `seconds` seconds until the run has ended. Prints nothing
+/// if `seconds` is 0.
 pub fn tell_on<W: Write, R: Wait>(
     rt: &R,
     to: &mut W,
@@ -51,10 +52,10 @@ pub fn tell_on<W: Write, R: Wait>(
     }
 }
 
-/// Tells the counts of each link.
+/// Prints the counts of each link.
 pub fn tell_counts<W: Write>(to: &mut W, devices: &[Device]) {
     for device in devices {
-        // A failed write changes nothing of the run.
+        // A failed write does not affect the run.
         let _ = write_counts(to, device.name.as_slice(), device.counts.read());
     }
 }

@@ -1,10 +1,11 @@
-//! Where the program's sessions come from, beside a listener.
+//! Doors for sessions that do not come over TCP.
 
 use click_control::{Reading, Writing};
 use click_workers::Door;
 use std::io::{Stdin, Stdout};
 
-/// Standard input and output, for the first session alone: it has them as they are, watched from then on.
+/// A door that lets in only the first session, with standard input and output, whose failures are
+/// recorded from then on.
 #[derive(Drop)]
 pub struct Standard {
     input: Stdin,
@@ -35,7 +36,7 @@ impl Door for Standard {
     }
 }
 
-/// Lets nobody in: where the program cannot listen.
+/// A door that lets no session in: the program could not listen.
 #[derive(Drop)]
 pub struct ClosedDoor;
 

@@ -1,4 +1,4 @@
-//! The picture of a configuration.
+//! Drawing the picture of a configuration.
 
 ghost use Rattle.click_prog.specs.Drawn.{DrawsTo};
 
@@ -8,7 +8,9 @@ use click_page::picture_of;
 use std::alloc::Global;
 use std::io::Write;
 
-/// Writes the picture of the text's configuration to `to`, as SVG. Why there is none is written to `errors`; nothing where memory ran out.
+/// Writes the picture of a configuration to `to`, as SVG.
+///
+/// If there is no picture, writes the fault to `errors`, but nothing for out of memory.
 pub fn draw<W: Write, E: Write>(alloc: Global, to: &mut W, errors: &mut E, text: &[u8]) -> Status
     ensures { DrawsTo text.now (W.contents to.old) (W.contents to.new) result }
 {

@@ -1,4 +1,4 @@
-//! Links, as a command line names them: devices whose packets are datagrams between two places.
+//! Links as values of `--link`: devices whose packets are UDP datagrams between two addresses.
 
 ghost use Rattle.std.specs.Prelude.{◌≡◌, IfOk, IfErr, MatchOption, map};
 ghost use Rattle.std.specs.List.{list_any};
@@ -9,29 +9,29 @@ use crate::number::number_in;
 use std::alloc::{AllocFailed, Global};
 use std::net::{Ipv4Addr, SocketAddrV4};
 
-/// How many links a router has at most.
+/// The maximum number of links of a router.
 const MOST_LINKS: usize = 16;
 
-/// A device, and the two places between which its packets are datagrams.
+/// A device, and the two addresses between which its packets are datagrams.
 #[derive(Clone, Copy, Debug)]
 pub struct Link<'a> {
-    /// The device, as FromDevice and ToDevice name it.
+    /// The name of the device in FromDevice and ToDevice.
     pub device: &'a str,
-    /// Where its datagrams come in.
+    /// The local address, at which its datagrams arrive.
     pub here: SocketAddrV4,
-    /// Its peer, to which they go.
+    /// The address of its peer, to which its datagrams are sent.
     pub there: SocketAddrV4,
 }
 
-/// Why the values of `--link` are refused.
+/// The reason why values of `--link` are refused.
 #[derive(Debug, Drop, thiserror::Error)]
 pub enum LinkFault<'a> {
     #[error("out of memory")]
     NoMemory,
-    /// A value is no link.
+    /// This value is not a link.
     #[error("--link <DEVICE=HERE,THERE> takes a device and two places, each a port of 127.0.0.1 (1 to 65535) or an IPv4 address with a port (as 10.0.0.1:5000), and '{0}' is none")]
     NoLink(&'a str),
-    /// Two links are of this device.
+    /// Two links have this device.
     #[error("--link takes a device once, and '{0}' is given twice")]
     Twice(&'a str),
     #[error("--link takes 16 links at most")]
@@ -49,7 +49,7 @@ impl<T: Drop> From<AllocFailed<T>> for LinkFault<'_> {
     }
 }
 
-/// The links that values spell, one each, or why they are refused.
+/// Parses values as links, one each.
 pub fn links_of<'a>(alloc: Global, values: &[&'a str]) -> Result<Vec<Link<'a>>, LinkFault<'a>>
     ensures links { IfOk result (λ links. AreLinks (map (λ v. v.now) values.now) links.items) }
     ensures refused { IfErr result (IsLinkFault (map (λ v. v.now) values.now)) }
@@ -70,14 +70,14 @@ pub fn links_of<'a>(alloc: Global, values: &[&'a str]) -> Result<Vec<Link<'a>>, 
     Ok(links)
 }
 
-/// Whether one of the links is of this device.
+/// Returns whether one of the links has this device.
 fn is_linked(links: &[Link], device: &str) -> bool
     ensures { result ≡ list_any (λ l. bytes_eq l.device.now device.now) links.now }
 {
     links.iter().any(|link| link.device == device)
 }
 
-/// The link that a value spells, if it spells one.
+/// Parses a value as a link.
 fn link_of(value: &str) -> Option<Link<'_>>
     ensures { MatchOption result (IsNoLink value.now) (IsLink value.now) }
 {
@@ -93,7 +93,7 @@ fn link_of(value: &str) -> Option<Link<'_>>
     })
 }
 
-/// The place that a text names, if it names one.
+/// Parses an address: a port of 127.0.0.1, or an IPv4 address with a port.
 fn place_of(text: &str) -> Option<SocketAddrV4>
     ensures { MatchOption result (IsNoPlace text.now) (IsPlace text.now) }
 {
@@ -103,7 +103,7 @@ fn place_of(text: &str) -> Option<SocketAddrV4>
     }
 }
 
-/// The IPv4 address and the port that a text names, if it names both.
+/// Parses an IPv4 address with a port.
 fn addressed(text: &str) -> Option<SocketAddrV4>
     ensures { MatchOption result (IsUnaddressed text.now) (IsAddressed text.now) }
 {

@@ -1,4 +1,4 @@
-//! The run of a router that stays, with links.
+//! The run of a live router with links.
 
 ghost use Rattle.std.specs.Prelude.{◌≡◌, ◌<◌, ◌≤◌, ◌+◌, [], map, option_map, IfOk, IfErr};
 ghost use Rattle.std.specs.List.{All};
@@ -27,15 +27,21 @@ use std::sync::Wait;
 use std::thread;
 use std::thread::Threads;
 
-/// Links with their sockets, and after how many seconds each their counts are told; 0: only at the end.
+/// The sockets of links, and the interval at which their counts are printed, in seconds.
+///
+/// If the interval is 0, counts are printed at the end only.
 #[derive(Drop)]
 pub struct OpenedLinks {
     pub sockets: Sockets,
     pub tell: u64,
 }
 
-/// Serves sessions that come in at this door, so many at each place, one after another, with drivers, links and a page, where one is opened, beside them, over a router of the text that keeps no book. Why a text is refused is written to
-/// standard error, and the links' counts meanwhile and at the end.
+/// Serves sessions that come in at a door over a live router, with drivers, links, and a page if
+/// there is one.
+///
+/// Each session slot serves as many sessions as `arrivals` says, one after another. Writes the
+/// fault of a refused text to standard error, and the counts of links at their interval and at the
+/// end.
 pub fn serve_linked<T: Handlers + Send + Drop, D: Door, R: Threads + Wait + Sync>(
     rt: &R,
     host: &HostRuntime,
@@ -70,7 +76,7 @@ pub fn serve_linked<T: Handlers + Send + Drop, D: Door, R: Threads + Wait + Sync
     }
 }
 
-/// The same with this work beside them.
+/// Does what `serve_linked` does, with any work in parallel with the links.
 fn serve_beside<
     T: Handlers + Send + Drop,
     D: Door,
@@ -133,7 +139,7 @@ fn serve_beside<
     }
 }
 
-/// Tells the counts of the links at the end, and the status of a run.
+/// Prints the counts of the links at the end, and returns the status of the run.
 fn conclude(host: &HostRuntime, devices: &[Device], ended: &[SessionEnd]) -> Status
     ensures { result ≡ sessions_status ended.now }
 {
@@ -141,7 +147,7 @@ fn conclude(host: &HostRuntime, devices: &[Device], ended: &[SessionEnd]) -> Sta
     sessions_status(ended)
 }
 
-/// Tells why there was no run; nothing where memory ran out.
+/// Prints the reason why there was no run, but nothing for out of memory.
 fn refuse(host: &HostRuntime, fault: &OpenFault) -> Status
     ensures { result ≡ opening_status fault.now }
 {

@@ -1,4 +1,6 @@
-//! The router as a program: control sessions, on standard input and output or over TCP, with drivers beside them; or a picture of its configuration.
+//! The router as a program. It serves control sessions, on standard input and output or over TCP,
+//! or draws a picture of its configuration. Its first word may choose another mode: `--calls`
+//! answers calls, one on each line, and `--pcap` sends a capture through the router.
 #![tactic(auto)]
 
 ghost use Rattle.std.specs.Prelude.{◌≡◌, ◌∷◌, []};
@@ -6,24 +8,30 @@ ghost use Rattle.std.specs.Net.Addr.{ipv4_octets};
 
 mod arguments;
 mod book_lines;
+pub mod calls;
 mod counts;
 mod doors;
 mod drawing;
 mod link;
 mod linking;
+mod mode;
 mod number;
 mod paging;
+pub mod pcap;
 mod runs;
 mod serving;
 mod sockets;
 mod status;
 
 use arguments::{ArgumentRefusal, Options, options_of};
+use calls::run_calls;
 use click_cli::{Status, refuse_arguments, words_of};
 use click_handlers::with_table;
 use drawing::draw;
 use link::{Link, LinkFault};
 use linking::OpenedLinks;
+use mode::{Mode, mode_of};
+use pcap::run_pcap;
 use runs::{Serving, SessionSource, config_fault_status};
 use serving::{EndReport, RunSetup, plan_of};
 use sockets::{SocketFault, open_sockets};
@@ -37,17 +45,30 @@ fn main(rt: HostRuntime) -> ExitCode {
     ExitCode::from(program(&rt, &rt).code())
 }
 
-/// Reads the command line and runs what it asks for.
+/// Reads the command line, and runs the mode that it asks for.
 fn program<R: Threads + Wait + Net<Listener = TcpListener, Stream = TcpStream> + Sync>(
     rt: &R,
     host: &HostRuntime,
 ) -> Status {
-    let alloc = host.alloc();
     let words = match words_of(host, "click_prog") {
         Ok(words) => words,
         Err(status) => return status,
     };
-    match options_of(alloc, words.as_slice()) {
+    match mode_of(words.as_slice()) {
+        Mode::Sessions => run_sessions(rt, host, words.as_slice()),
+        Mode::Calls(words) => run_calls(rt, host, words),
+        Mode::Pcap(words) => run_pcap(host, words),
+    }
+}
+
+/// Serves sessions or draws a picture, according to the command line.
+fn run_sessions<R: Threads + Wait + Net<Listener = TcpListener, Stream = TcpStream> + Sync>(
+    rt: &R,
+    host: &HostRuntime,
+    words: &[String],
+) -> Status {
+    let alloc = host.alloc();
+    match options_of(alloc, words) {
         Ok(options) if options.draw => draw(
             alloc,
             &mut host.stdout(),
@@ -69,7 +90,8 @@ fn program<R: Threads + Wait + Net<Listener = TcpListener, Stream = TcpStream> +
     }
 }
 
-/// Serves what is run, over the port of the options or standard input and output, with their links and their page beside it.
+/// Makes the run: opens the sockets of its links and its listener, and builds the table of
+/// handlers.
 fn serve<R: Threads + Wait + Net<Listener = TcpListener, Stream = TcpStream> + Sync>(
     rt: &R,
     host: &HostRuntime,
@@ -101,7 +123,7 @@ fn serve<R: Threads + Wait + Net<Listener = TcpListener, Stream = TcpStream> + S
     }
 }
 
-/// The links with their sockets, where there are any.
+/// Opens the sockets of the links, if there are any.
 fn opened_links<'a, R: Net>(
     rt: &R,
     alloc: Global,
@@ -115,12 +137,12 @@ fn opened_links<'a, R: Net>(
     Ok(Some(OpenedLinks { sockets, tell }))
 }
 
-/// Tells why there are no links; where the configuration is faulty, that, as where it cannot listen.
+/// Prints the reason why there are no links. If the configuration has a fault, prints that instead.
 fn refuse_links(host: &HostRuntime, text: &[u8], fault: &SocketFault) -> Status {
     if let Some(status) = config_fault_status(host, text) {
         return status;
     }
-    // A failed write changes nothing of the status.
+    // A failed write does not change the status.
     let _ = eprintln!(host; "click_prog: {fault}");
     match fault {
         SocketFault::NoMemory => Status::NoMemory,
@@ -128,7 +150,7 @@ fn refuse_links(host: &HostRuntime, text: &[u8], fault: &SocketFault) -> Status 
     }
 }
 
-/// Where it listens: on the machine itself alone.
+/// Returns the address at which the program listens: only on this machine.
 fn address_of(port: u16) -> (Ipv4Addr, u16)
     ensures address { ipv4_octets result.0 ≡ 127 ∷ 0 ∷ 0 ∷ 1 ∷ [] }
     ensures port { result.1 ≡ port }
@@ -136,9 +158,9 @@ fn address_of(port: u16) -> (Ipv4Addr, u16)
     (Ipv4Addr::LOCALHOST, port)
 }
 
-/// Tells why the command line is refused; nothing where memory ran out.
+/// Prints the reason why the command line is refused, but nothing for out of memory.
 fn refused(host: &HostRuntime, refusal: &ArgumentRefusal) -> Status {
-    // A failed write changes nothing of the status.
+    // A failed write does not change the status.
     let _ = match refusal {
         ArgumentRefusal::Clap(error) => return refuse_arguments(host, error),
         ArgumentRefusal::Link(LinkFault::NoMemory) => return Status::NoMemory,

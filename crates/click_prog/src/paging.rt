@@ -1,4 +1,4 @@
-//! A page beside the sessions of a run.
+//! A run with a page for browsers.
 
 ghost use Rattle.std.specs.Prelude.{◌≡◌, ◌<◌};
 ghost use Rattle.click_prog.specs.Paging.{IsPagedOver, PagedRunTo, room_of, rounds_of};
@@ -17,7 +17,8 @@ use std::sync::atomic::AtomicBool;
 use std::thread::Threads;
 use std::time::Clock;
 
-/// A page that shows the router to browsers: what was opened for it, the clock that it is served by, and whether it may only read.
+/// The page that shows the router in a browser: its listener, its clock, and whether it may only
+/// read.
 #[derive(Drop)]
 pub struct Paging<'a, C> {
     pub page_listener: PageListener,
@@ -53,7 +54,7 @@ impl<'a, T: Handlers + Send + Drop, C: Clock + Sync> Beside<T> for Paging<'a, C>
     }
 }
 
-/// Serves a page over a port until it is told to stop.
+/// Serves a page over a port until `stop` is set.
 fn serve_page<P: Port, C: Clock, R: Wait>(
     rt: &R,
     clock: &C,
@@ -71,24 +72,27 @@ fn serve_page<P: Port, C: Clock, R: Wait>(
     (ended, page.into_port())
 }
 
-/// How many entries the history of a run that ends may have.
+/// The maximum number of entries of the history of a run that ends.
 const ROOM: usize = 1_048_576;
 
-/// How many entries the book of a run may have; none: it keeps no book.
+/// Returns the room of a run's book, or `None` for a live router, which keeps no book.
 fn room_of(live: bool) -> Option<usize>
     ensures { result ≡ room_of live }
 {
     if live { None } else { Some(ROOM) }
 }
 
-/// How many rounds each driver makes; none: it goes on.
+/// Returns the number of rounds of each driver, or `None` for a live router, whose drivers go on.
 fn rounds_of(live: bool, rounds: u64) -> Option<u64>
     ensures { result ≡ rounds_of live rounds }
 {
     if live { None } else { Some(rounds) }
 }
 
-/// Serves sessions that come in at this door, so many at each place, with drivers and a page beside them, over a router of the text. What is to be told is written to standard error.
+/// Serves sessions that come in at a door, with drivers and a page, over a router of the text.
+///
+/// Each session slot serves as many sessions as `arrivals` says. Writes the reports of the run to
+/// standard error.
 pub fn serve_paged<T: Handlers + Send + Drop, D: Door, R: Threads + Wait + Sync>(
     rt: &R,
     host: &HostRuntime,

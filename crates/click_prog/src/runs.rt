@@ -22,30 +22,30 @@ use std::net::{TcpListener, TcpStream};
 use std::sync::Wait;
 use std::thread::Threads;
 
-/// Where sessions come from, as a command line asks for it.
+/// The origin of the sessions of a run.
 #[derive(Drop)]
 pub enum SessionSource {
-    /// One from standard input and output.
+    /// One session, on standard input and output.
     Standard,
-    /// Over TCP.
+    /// Sessions over TCP.
     Over(TcpListener),
-    /// None: it was to listen, and cannot.
+    /// No session: the program could not listen on its port.
     Nowhere,
 }
 
-/// The run that a command line asks for.
+/// The arguments of a run.
 #[derive(Drop)]
 pub struct Serving<'a> {
     pub host: &'a HostRuntime,
     pub setup: RunSetup<'a>,
     pub session_source: SessionSource,
     pub links: Option<OpenedLinks>,
-    /// At which port of 127.0.0.1 browsers are shown a page.
+    /// The port of 127.0.0.1 at which browsers are shown a page, if there is a page.
     pub page: Option<u16>,
 }
 
 impl<'a> Serving<'a> {
-    /// Makes the run over this table.
+    /// Makes the run over a table of handlers.
     fn serve<T: Handlers + Send + Drop, R: Threads + Wait + Sync>(
         self,
         rt: &R,
@@ -69,7 +69,7 @@ impl<'a> Serving<'a> {
     }
 }
 
-/// Tells why there is no page; where the configuration is faulty, that.
+/// Prints the reason why there is no page. If the configuration has a fault, prints that instead.
 fn refuse_page(host: &HostRuntime, text: &[u8], port: u16, fault: &io::Error) -> Status {
     if let Some(status) = config_fault_status(host, text) {
         return status;
@@ -77,12 +77,12 @@ fn refuse_page(host: &HostRuntime, text: &[u8], port: u16, fault: &io::Error) ->
     if fault.kind() == io::ErrorKind::OutOfMemory {
         return Status::NoMemory;
     }
-    // A failed write changes nothing of the status.
+    // A failed write does not change the status.
     let _ = eprintln!(host; "click_prog: the page cannot have 127.0.0.1:{port}: {fault}");
     Status::DeviceFailed
 }
 
-/// Tells what is wrong with the configuration, if anything is, and the status of that.
+/// Prints the fault of the configuration, if it has one, and returns its status.
 pub fn config_fault_status(host: &HostRuntime, text: &[u8]) -> Option<Status> {
     let alloc = host.alloc();
     match prepare(alloc, text) {
@@ -114,22 +114,24 @@ impl<'a> TakesTable for Serving<'a> {
     }
 }
 
-/// Whether one session on standard input and output is all that there is, where nothing else stands beside it.
+/// Returns whether the run is one session on standard input and output, with nothing in parallel.
 fn is_alone(plan: &Plan, beside: bool) -> bool
     ensures { result ≡ is_alone beside plan.now }
 {
     !beside && !plan.live && plan.workers == 0
 }
 
-/// How many sessions each place serves that come over TCP.
+/// Returns the number of sessions over TCP that each session slot serves.
 fn turns_of(stays: bool) -> u64
     ensures { result ≡ turns_of stays }
 {
     if stays { u64::MAX } else { 1 }
 }
 
-/// Serves the sessions that come, as the plan has them, with links and a page beside them where these are opened. One session on standard input ends it, and so does the end of all over TCP where the router does not stay; where it stays nothing does
-/// but the end of the process.
+/// Serves the sessions of the plan, with links and a page if these are opened.
+///
+/// The run ends with its one session on standard input, or with the last session over TCP if the
+/// router is not live. A live router over TCP ends with the process.
 fn serve_source<T: Handlers + Send + Drop, R: Threads + Wait + Sync>(
     rt: &R,
     host: &HostRuntime,
@@ -171,7 +173,7 @@ fn serve_source<T: Handlers + Send + Drop, R: Threads + Wait + Sync>(
     }
 }
 
-/// Serves the sessions that come in at this door, with links and a page beside them where these are opened.
+/// Serves sessions that come in at a door, with links and a page if these are opened.
 fn serve_at<T: Handlers + Send + Drop, D: Door, R: Threads + Wait + Sync>(
     rt: &R,
     host: &HostRuntime,

@@ -1,4 +1,4 @@
-//! The runs of a plan at a door, over a table of handlers, and what is told of them.
+//! Runs of a plan over a table of handlers, and their reports on standard error.
 
 ghost use Rattle.std.specs.Prelude.{◌≡◌, ◌++◌, ◌∷◌, ◌+◌, ◌<◌, ◌≤◌, [], OnOk, codes};
 ghost use Rattle.std.specs.Io.KnownBytes.{Appends};
@@ -23,7 +23,10 @@ use std::mem;
 use std::sync::Wait;
 use std::thread::Threads;
 
-/// How many sessions (1 to 64) and drivers (at most 16) there are, how many rounds each driver makes, whether sessions may only read, and whether the router stays.
+/// The plan of a run.
+///
+/// It has the numbers of sessions (1 to 64), of drivers (0 to 16) and of the rounds of each driver.
+/// It also says whether sessions may only read, and whether the router is live.
 #[derive(Drop)]
 pub struct Plan {
     pub(crate) sessions: usize,
@@ -59,7 +62,7 @@ impl Plan {
     }
 }
 
-/// What the options ask for: where they name no port there is one session.
+/// Returns the plan of the options. Without a port there is one session.
 pub fn plan_of(options: &Options) -> Plan
     requires { IsInRanges options.now }
     ensures { result ≡ plan_of options.now }
@@ -77,14 +80,14 @@ pub fn plan_of(options: &Options) -> Plan
     )
 }
 
-/// What is told once a run is closed: whether this handler can be read then, and the book.
+/// The reports at the end of a run: whether the handler `check` can be read, and the book.
 #[derive(Clone, Copy)]
 pub struct EndReport<'a> {
     pub check: Option<&'a [u8]>,
     pub book: bool,
 }
 
-/// What is run: the configuration, the plan, and what is told at the end.
+/// The arguments of a run: the configuration, the plan, and the reports at its end.
 #[derive(Drop)]
 pub struct RunSetup<'a> {
     pub text: &'a [u8],
@@ -92,7 +95,8 @@ pub struct RunSetup<'a> {
     pub end: EndReport<'a>,
 }
 
-/// How sessions come in: at a door and past a gate, and so many at each place, one after another.
+/// The arrival of sessions: at a door, past a gate, and `turns` of them in each session slot, one
+/// after another.
 #[derive(Drop)]
 pub struct Arrivals<'a, D, G> {
     pub door: &'a D,
@@ -101,7 +105,7 @@ pub struct Arrivals<'a, D, G> {
 }
 
 impl<'a, D> Arrivals<'a, D, OpenGate> {
-    /// Past a gate that holds nobody.
+    /// Returns arrivals past a gate that never holds a session.
     pub fn open(door: &'a D, turns: u64) -> Arrivals<'a, D, OpenGate>
         ensures { (result.door.now ≡ door.now) × (result.turns ≡ turns) }
     {
@@ -113,7 +117,7 @@ impl<'a, D> Arrivals<'a, D, OpenGate> {
     }
 }
 
-/// Sessions and drivers as a plan has them, of which the sessions come in like this.
+/// Returns the sessions and drivers of a plan, with these arrivals.
 pub(crate) fn clients_of<'a, D, G>(plan: Plan, arrivals: Arrivals<'a, D, G>) -> Clients<'a, D, G>
     ensures door { result.door.now ≡ arrivals.entry.door.now }
     ensures gate { result.gate.now ≡ arrivals.entry.gate.now }
@@ -130,8 +134,11 @@ pub(crate) fn clients_of<'a, D, G>(plan: Plan, arrivals: Arrivals<'a, D, G>) -> 
     }
 }
 
-/// Serves one session that reads from this device and writes to that one, over the router of the text. The devices come back as the
-/// session left them. Why a text is refused is written to standard error, and whether the handler that is to be checked can be read at the end.
+/// Serves one session that reads from one device and writes to the other, over a router of the
+/// text.
+///
+/// Returns the devices as the session left them. Writes to standard error the fault of a refused
+/// text, or the reports at the end.
 pub fn session<T: Handlers + Drop, I: InputDevice, O: OutputDevice, R: Wait>(
     rt: &R,
     host: &HostRuntime,
@@ -149,7 +156,8 @@ pub fn session<T: Handlers + Drop, I: InputDevice, O: OutputDevice, R: Wait>(
     (status, reader, writer)
 }
 
-/// Serves one session with this reader and this writer, over the router of the text. What is to be told is written to standard error.
+/// Serves one session with this reader and this writer, over a router of the text. Writes the
+/// reports to standard error.
 fn serve_text<T: Handlers + Drop, S: Source, W: Sink, R: Wait>(
     rt: &R,
     host: &HostRuntime,
@@ -172,7 +180,7 @@ fn serve_text<T: Handlers + Drop, S: Source, W: Sink, R: Wait>(
             },
         ) => {
             tell_end(host, end, checked, book.entries.as_slice());
-            // The process ends, and its memory with it.
+            // The process is about to end, and its memory with it.
             mem::forget(book);
             end_status(&ended)
         }
@@ -180,7 +188,8 @@ fn serve_text<T: Handlers + Drop, S: Source, W: Sink, R: Wait>(
     }
 }
 
-/// Serves sessions that come in at this door, with drivers beside them, over the router of the text. What is to be told is written to standard error.
+/// Serves sessions that come in at a door, with drivers, over a router of the text. Writes the
+/// reports to standard error.
 pub fn serve_all<T: Handlers + Send + Drop, D: Door, R: Threads + Wait + Sync>(
     rt: &R,
     host: &HostRuntime,
@@ -208,8 +217,11 @@ pub fn serve_all<T: Handlers + Send + Drop, D: Door, R: Threads + Wait + Sync>(
     }
 }
 
-/// Serves sessions that come in at this door, so many at each place, one after another, with drivers beside them that go on as long, over a router of the text that
-/// keeps no book. Why a text is refused is written to standard error.
+/// Serves sessions that come in at a door over a live router of the text, with drivers that go on
+/// as long as sessions are served.
+///
+/// Each session slot serves as many sessions as `arrivals` says, one after another. Writes the
+/// fault of a refused text to standard error.
 pub fn serve_live<T: Handlers + Send + Drop, D: Door, R: Threads + Wait + Sync>(
     rt: &R,
     host: &HostRuntime,
@@ -230,7 +242,7 @@ pub fn serve_live<T: Handlers + Send + Drop, D: Door, R: Threads + Wait + Sync>(
     }
 }
 
-/// Tells what is to be told of a run of several sessions, and its status.
+/// Prints the reports of a run of several sessions, and returns its status.
 pub(crate) fn conclude<T: Drop>(host: &HostRuntime, end: EndReport, all: AllRan<T>) -> Status
     ensures { result ≡ sessions_status all.ended.items }
 {
@@ -241,19 +253,19 @@ pub(crate) fn conclude<T: Drop>(host: &HostRuntime, end: EndReport, all: AllRan<
         checked,
     } = all;
     tell_end(host, end, checked, book.entries.as_slice());
-    // The process ends, and its memory with it.
+    // The process is about to end, and its memory with it.
     mem::forget(book);
     sessions_status(ended.as_slice())
 }
 
-/// Tells what is to be told of a run: what was checked, and its book.
+/// Prints the reports of a run: the check, and the book.
 fn tell_end(host: &HostRuntime, end: EndReport, checked: Option<Check>, entries: &[Entry]) {
     let mut errors = host.stderr();
     tell_check(&mut errors, end.check, checked);
     tell_book(host.alloc(), &mut errors, end.book, entries);
 }
 
-/// Tells why there was no run; nothing where memory ran out.
+/// Prints the reason why there was no run, but nothing for out of memory.
 pub(crate) fn refuse(host: &HostRuntime, fault: &RunFault) -> Status
     ensures { result ≡ fault_status fault.now }
 {
@@ -266,23 +278,23 @@ pub(crate) fn refuse(host: &HostRuntime, fault: &RunFault) -> Status
     }
 }
 
-/// Tells what was checked, if anything was.
+/// Prints the outcome of the check, if there was one.
 fn tell_check<E: Write>(errors: &mut E, name: Option<&[u8]>, checked: Option<Check>) {
     if let (Some(name), Some(check)) = (name, checked) {
-        // A failed write changes nothing of the status.
+        // A failed write does not change the status.
         let _ = write_check(errors, name, check);
     }
 }
 
-/// Writes the book, if that is asked for.
+/// Prints the book, if that was asked for.
 fn tell_book<E: Write>(alloc: Global, errors: &mut E, asked: bool, entries: &[Entry]) {
     if asked {
-        // A failed write changes nothing of the status.
+        // A failed write does not change the status.
         let _ = write_book(alloc, errors, entries);
     }
 }
 
-/// Writes what was checked as a line.
+/// Writes the outcome of the check as a line.
 fn write_check<W: Write>(to: &mut W, name: &[u8], check: Check) -> io::Result<()>
     ensures { OnOk result (Appends (W.contents to.old) (W.contents to.new) (check_line name.now check)) }
 {
@@ -293,7 +305,7 @@ fn write_check<W: Write>(to: &mut W, name: &[u8], check: Check) -> io::Result<()
     to.write_all(b"\n")
 }
 
-/// What a check is told as.
+/// Returns the word that reports the outcome of a check.
 fn word_of(check: Check) -> &'static [u8]
     ensures { result.now ≡ check_word check }
 {

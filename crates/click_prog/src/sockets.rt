@@ -11,22 +11,23 @@ use std::io;
 use std::io::ErrorKind;
 use std::net::{Net, SocketAddr, SocketAddrV4};
 
-/// How long a receiver waits for a datagram before it looks whether it is to stop, in milliseconds.
+/// The maximum time that a receiver blocks before it checks whether it has to stop, in
+/// milliseconds.
 const WAIT: u64 = 100;
 
-/// The links with their sockets, and the end at which packets go out over all of them.
+/// The receivers of all links with their sockets, and the sending side of all links.
 #[derive(Drop)]
 pub struct Sockets {
     pub links: Links<UdpIn>,
     pub sender: UdpOut,
 }
 
-/// Why the sockets of links were not opened.
+/// The reason why the sockets of links were not opened.
 #[derive(Debug, Drop, thiserror::Error)]
 pub enum SocketFault<'a> {
     #[error("out of memory")]
     NoMemory,
-    /// The place of this link cannot be had.
+    /// The local address of this link cannot be used.
     #[error("link {device} cannot have {here}: {error}")]
     Place {
         device: &'a str,

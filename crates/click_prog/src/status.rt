@@ -1,4 +1,4 @@
-//! How the program ends.
+//! The exit statuses of runs.
 
 ghost use Rattle.std.specs.Prelude.{◌≡◌};
 ghost use Rattle.std.specs.List.{list_any};
@@ -8,10 +8,10 @@ use click_cli::Status;
 use click_control::{Ended, ServeFault};
 use click_workers::SessionEnd;
 
-/// What stands before a line of the program's on standard error.
+/// The prefix of the program's lines on standard error.
 pub const BEFORE: &[u8] = b"click_prog: ";
 
-/// The status of a session.
+/// Returns the status of a session.
 pub fn end_status(ended: &Result<Ended, ServeFault>) -> Status
     ensures { result ≡ spec.end_status ended.now }
 {
@@ -23,7 +23,7 @@ pub fn end_status(ended: &Result<Ended, ServeFault>) -> Status
     }
 }
 
-/// The status of one of several sessions.
+/// Returns the status of one of several sessions. A session that could not come in has failed.
 fn session_status(end: &SessionEnd) -> Status
     ensures { result ≡ spec.session_status end.now }
 {
@@ -69,7 +69,8 @@ fn any_device(ends: &[SessionEnd]) -> bool
     ends.iter().any(|end| is_device(session_status(end)))
 }
 
-/// The status of several sessions: of those that are not good the one with the least number.
+/// Returns the status of several sessions: the first of `NoMemory`, `Refused` and `DeviceFailed`
+/// that a session has, else `Good`.
 pub fn sessions_status(ends: &[SessionEnd]) -> Status
     ensures { result ≡ spec.sessions_status ends.now }
 {

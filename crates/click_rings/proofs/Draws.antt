@@ -1,4 +1,4 @@
--- Laws of inlets of several devices.
+-- Lemmas about the inlets of several devices.
 use Rattle.std.proofs.Common.{◌≡◌, ℕ, zero, suc, ◌<◌, ◌≤◌, ◌+◌, Bool, true, false, ◌||◌, ◌&&◌, if◌then◌else◌, List, [], ◌∷◌, ◌++◌, map, length, slice_index_or, slice_set, Decides, sym, refl, ap, ◌∙◌, subst, true≢false, append-nil, arith}
 use Rattle.std.proofs.Math.Bool.{not}
 use Rattle.std.proofs.lemmas.Bool.{not-true}
@@ -33,14 +33,14 @@ or_rest : (a b : Bool) → b ≡ true → (a || b) ≡ true
 or_rest true b e = refl
 or_rest false b e = e
 
--- the same device
+-- the two names are of the same device
 pub same_device : (a b : List ℕ) → bytes_eq a b ≡ true → a ≡ b
 same_device a b e = (bytes_eq-Decides a b).0 e
 
 pub is_itself : (a : List ℕ) → bytes_eq a a ≡ true
 is_itself a = (bytes_eq-Decides a a).1 refl
 
--- inlets of other devices are as they were
+-- inlets of other devices are unchanged
 pub drew_away : (device : List ℕ) (got : List Packet) (is : List ConsumerState) → has_feed device (map name_of is) ≡ false → drew device got is ≡ is
 drew_away device got [] away = refl
 drew_away device got (i ∷ is) away =
@@ -57,7 +57,7 @@ pub drew_feeds : (device : List ℕ) (got : List Packet) (is : List ConsumerStat
 drew_feeds device got [] = refl
 drew_feeds device got (i ∷ is) = (λ k. drew_one got i (bytes_eq i.device device) k ∷ drew_feeds device got is k)
 
--- an inlet that stands there is one
+-- if an inlet is at an index, the device has a feed
 pub has_at : (device : List ℕ) (is : List ConsumerState) (k : ℕ) → IsPlace device is k → has_feed device (map name_of is) ≡ true
 has_at device [] k at = let h = at.0 in absurd (omega arith)
 has_at device (i ∷ is) zero at = or_first (bytes_eq i.device device) (has_feed device (map name_of is)) (at.1 i)
@@ -70,26 +70,26 @@ each_has (f ∷ fs) =
     All-cons (λ (n : FeedName). has_feed n.device (f ∷ fs) ≡ true) f fs (or_first (bytes_eq f.device f.device) (has_feed f.device fs) (is_itself f.device))
     (λ k n below. or_rest (bytes_eq f.device (slice_index_or fs k n).device) (has_feed (slice_index_or fs k n).device fs) (each_has fs k n below))
 
--- the first of several apart is of no device of the others
+-- if the devices are distinct, no other feed is for the first one's device
 pub head_apart : (f : FeedName) (fs : List FeedName) → have_distinct_devices (f ∷ fs) ≡ true → has_feed f.device fs ≡ false
 head_apart f fs e = not-true (has_feed f.device fs) (both_first (not (has_feed f.device fs)) (have_distinct_devices fs) e)
 
 pub tail_apart : (f : FeedName) (fs : List FeedName) → have_distinct_devices (f ∷ fs) ≡ true → have_distinct_devices fs ≡ true
 tail_apart f fs e = both_rest (not (has_feed f.device fs)) (have_distinct_devices fs) e
 
--- the same of inlets
+-- if the devices are distinct, no other inlet is for the first one's device
 pub first_apart : (i : ConsumerState) (is : List ConsumerState) → have_distinct_devices (map name_of (i ∷ is)) ≡ true → has_feed i.device (map name_of is) ≡ false
 first_apart i is e = head_apart (name_of i) (map name_of is) e
 
 pub rest_apart : (i : ConsumerState) (is : List ConsumerState) → have_distinct_devices (map name_of (i ∷ is)) ≡ true → have_distinct_devices (map name_of is) ≡ true
 rest_apart i is e = tail_apart (name_of i) (map name_of is) e
 
--- where one of the others is of the device, the first is not
+-- if one of the others is for the device, the first one is not
 pub other_first : (device : List ℕ) (i : ConsumerState) (is : List ConsumerState) (b : Bool) → bytes_eq i.device device ≡ b → has_feed i.device (map name_of is) ≡ false → has_feed device (map name_of is) ≡ true → b ≡ false
 other_first device i is true same away there = absurd (true≢false (sym there ∙ (ap (λ d. has_feed d (map name_of is)) (sym (same_device i.device device same)) ∙ away)))
 other_first device i is false same away there = refl
 
--- what is drawn from the inlet of a device alone
+-- packets are drawn only from the inlet of the device
 pub drew_at : (device : List ℕ) (got : List Packet) (is : List ConsumerState) (k : ℕ) (x : ConsumerState) → IsPlace device is k → have_distinct_devices (map name_of is) ≡ true → x ≡ slice_index_or is k x
     → slice_set is k (record x { drawn = x.drawn ++ got }) ≡ drew device got is
 drew_at device got [] k x at apart here = let h = at.0 in absurd (omega arith)

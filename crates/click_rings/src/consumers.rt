@@ -1,4 +1,4 @@
-//! Inlets of several devices, and what is drawn from them.
+//! Inlets in use, and drawing packets from one of several.
 
 ghost use Rattle.std.specs.Prelude.{◌≡◌, ◌≤◌, ◌++◌, List, [], length, map, true, false, vec_capacity, IfOk, IfSome, IfNone, OnErr};
 ghost use Rattle.click_packet.specs.Packet.{Packet};
@@ -11,7 +11,7 @@ use rtrb::Consumer;
 use std::alloc::{AllocError, Global};
 use std::marker::Model;
 
-/// An inlet in use.
+/// An inlet in use: packets are drawn from it.
 #[derive(Drop)]
 pub struct PacketConsumer {
     device: Sequence<u8>,
@@ -37,21 +37,22 @@ impl PacketConsumer {
         PacketConsumer { device, consumer }
     }
 
-    /// The device that it is for.
+    /// Returns the device of the inlet.
     pub fn device(&self) -> &[u8]
         ensures { result.now ≡ self.now.device }
     {
         self.device.as_slice()
     }
 
-    /// How many packets are seen to be there. The driver may put more meanwhile.
+    /// Returns the number of packets that are known to be in the ring. The device driver may add
+    /// more.
     pub fn seen(&mut self) -> usize
         ensures { self.new ≡ self.old }
     {
         self.consumer.slots()
     }
 
-    /// Draws up to `most` packets, as far as they are seen to be there. It waits for nobody.
+    /// Draws up to `most` packets, of those that are known to be in the ring. Never blocks.
     pub fn draw(&mut self, most: usize, taken: &mut Vec<StoredPacket>)
         requires { (taken.old.items ≡ []) × (most ≤ vec_capacity taken.old) }
         ensures inlet { self.new ≡ record self.old { drawn = self.old.drawn ++ taken.new.items } }
@@ -66,7 +67,10 @@ impl PacketConsumer {
         }
     }
 
-    /// What is left in the ring of a feed that has ended. Where memory runs out, nothing is drawn. What was drawn before is a beginning of what was put, however this ends.
+    /// Draws all packets that are left in the ring of a feed that has ended.
+    ///
+    /// If it fails with out of memory, no packet is drawn. In either case the packets that were
+    /// drawn before are a prefix of those that were put.
     pub fn drain(
         &mut self,
         alloc: Global,
@@ -88,7 +92,7 @@ impl PacketConsumer {
     }
 }
 
-/// Whether one of these inlets is of the device.
+/// Returns whether one of these inlets is for the device.
 fn has_inlet(inlets: &[Inlet], device: &[u8]) -> bool
     ensures { result ≡ has_feed device.now inlets.now }
 {
@@ -98,7 +102,7 @@ fn has_inlet(inlets: &[Inlet], device: &[u8]) -> bool
     }
 }
 
-/// Whether no two of these inlets are of one device.
+/// Returns whether no two of these inlets are for the same device.
 pub fn have_distinct_devices(inlets: &[Inlet]) -> bool
     ensures { result ≡ apart inlets.now }
 {
@@ -108,7 +112,7 @@ pub fn have_distinct_devices(inlets: &[Inlet]) -> bool
     }
 }
 
-/// Where the device's stands.
+/// Returns the index of the inlet for the device, if there is one.
 pub fn place_of(consumers: &[PacketConsumer], device: &[u8]) -> Option<usize>
     ensures some { IfSome result (λ place. IsPlace device.now consumers.now place) }
     ensures none { IfNone result (has_feed device.now (map name_of consumers.now) ≡ false) }
@@ -127,7 +131,9 @@ pub fn place_of(consumers: &[PacketConsumer], device: &[u8]) -> Option<usize>
     }
 }
 
-/// How many packets are seen to be in the device's, up to `most`; none where there is no such inlet.
+/// Returns the number of packets that are known to be in the device's ring, up to `most`.
+///
+/// Returns 0 if there is no inlet for the device.
 pub fn available_in(consumers: &mut [PacketConsumer], device: &[u8], most: usize) -> usize
     ensures consumers { consumers.new ≡ consumers.old }
     ensures most { result ≤ most }
@@ -138,7 +144,7 @@ pub fn available_in(consumers: &mut [PacketConsumer], device: &[u8], most: usize
     }
 }
 
-/// Draws up to `most` packets from the device's, if there is one.
+/// Draws up to `most` packets from the device's inlet, if there is one. Never blocks.
 pub fn draw_from(
     consumers: &mut [PacketConsumer],
     device: &[u8],

@@ -7,7 +7,7 @@ use click_packet::StoredPacket;
 use rtrb::{Consumer, Producer, PushError};
 use std::marker::Model;
 
-/// The end that a driver has.
+/// The end of a feed that a device driver has.
 #[derive(Drop)]
 pub struct Feed {
     pub(crate) producer: Producer<StoredPacket>,
@@ -22,11 +22,13 @@ impl Model for Feed {
 
     ghost view = { λ f. record { ring = record { words = f.producer.end.words; slots = f.producer.end.slots; names = f.producer.end.names }; places = producer_capacity f.producer; put = sent f.producer } };
 
-    // No place is lost: each is known to be free, or was used.
+    // proof: no place is lost; each is known to be free, or was used.
     ghost invariant = { λ f. producer_capacity f.producer ≤ length (sent f.producer) + known_free f.producer };
 }
 
-/// What a feed that has finished put in all. It holds the ring, whose inlet may be gone, and nobody puts more.
+/// The end of a feed that has finished: all packets that were put.
+///
+/// It holds the ring, whose inlet may be gone. No more packets can be put.
 #[derive(Drop)]
 pub struct FeedEnd {
     pub(crate) producer: Producer<StoredPacket>,
@@ -41,7 +43,7 @@ impl Model for FeedEnd {
     ghost view = { λ f. record { ring = record { words = f.producer.end.words; slots = f.producer.end.slots; names = f.producer.end.names }; put = sent f.producer } };
 }
 
-/// The end that a desk is opened with. Nothing was drawn from it.
+/// The end of a feed that a desk is opened with. No packet was drawn from it.
 #[derive(Drop)]
 pub struct Inlet {
     pub(crate) device: Sequence<u8>,
@@ -61,7 +63,9 @@ impl Model for Inlet {
 }
 
 impl Feed {
-    /// Puts a packet, or hands it back where no place is seen to be free: never before as many were put as there are places. It waits for nobody.
+    /// Puts a packet into the ring, or returns it if no place is known to be free. Never blocks.
+    ///
+    /// It never returns the packet before as many packets were put as the ring has places.
     pub fn put(&mut self, packet: StoredPacket) -> Result<(), StoredPacket>
         ensures ring { (self.new.ring ≡ self.old.ring) × (self.new.places ≡ self.old.places) }
         ensures room { length self.old.put < self.old.places → IsOk result }
@@ -74,7 +78,7 @@ impl Feed {
         }
     }
 
-    /// Ends the feed, and keeps what it put. There always is an end.
+    /// Ends the feed. Always returns an end, which has the ring and the packets that were put.
     pub fn finish(self) -> Option<FeedEnd>
         ensures some { IsSome result }
         ensures end { IfSome result (λ end. (end.ring ≡ self.ring) × (end.put ≡ self.put)) }
@@ -85,7 +89,7 @@ impl Feed {
 }
 
 impl Inlet {
-    /// The device that it is for.
+    /// Returns the device of the inlet.
     pub fn device(&self) -> &[u8]
         ensures { result.now ≡ self.now.device }
     {

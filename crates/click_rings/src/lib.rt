@@ -1,4 +1,4 @@
-//! Feeds of devices: rings of packets from drivers, who wait for nobody, to a router.
+//! Feeds: bounded rings through which device drivers hand packets to a desk, without blocking.
 #![tactic(auto)]
 
 mod consumers;

@@ -1,4 +1,4 @@
-//! The opening of a feed.
+//! Opening a feed.
 
 ghost use Rattle.std.specs.Prelude.{◌≡◌, ◌<◌, ◌⊎◌, ◌↔◌, [], IfOk, Err};
 
@@ -8,10 +8,10 @@ use rtrb::RingBuffer;
 use std::alloc::{AllocError, Global};
 use thiserror::Error;
 
-/// The most places that a feed has.
+/// The maximum number of places of a feed.
 const MOST_PLACES: usize = 4096;
 
-/// Why no feed was made.
+/// The reason for which a feed was not opened.
 #[derive(Clone, Copy, Debug, PartialEq, Eq, Error)]
 pub enum FeedFault {
     #[error("a feed has 1 to 4096 places")]
@@ -20,7 +20,9 @@ pub enum FeedFault {
     NoMemory,
 }
 
-/// A ring for packets of a device. All that a feed needs is taken here.
+/// Returns both ends of a new ring for packets of a device, or fails with out of memory.
+///
+/// This allocates everything that the feed needs.
 fn ring(alloc: Global, device: &[u8], places: usize) -> Result<(Feed, Inlet), AllocError>
     ensures pair { IfOk result (λ r. (r.0.ring ≡ r.1.ring) × (r.1.device ≡ device.now)) }
     ensures empty { IfOk result (λ r. (r.0.put ≡ []) × (r.0.places ≡ places)) }
@@ -30,7 +32,10 @@ fn ring(alloc: Global, device: &[u8], places: usize) -> Result<(Feed, Inlet), Al
     Ok((Feed { producer }, Inlet { device, consumer }))
 }
 
-/// A feed of the device with 1 to 4,096 places: the driver's end, and the inlet that a desk is opened with.
+/// Opens a feed for a device with 1 to 4,096 places.
+///
+/// Returns the device driver's end, and the inlet that a desk is opened with. Fails with
+/// `PlaceCount`, or with `NoMemory`.
 pub fn feed(alloc: Global, device: &[u8], places: usize) -> Result<(Feed, Inlet), FeedFault>
     ensures pair { IfOk result (λ r. (r.0.ring ≡ r.1.ring) × (r.1.device ≡ device.now)) }
     ensures empty { IfOk result (λ r. (r.0.put ≡ []) × (r.0.places ≡ places)) }

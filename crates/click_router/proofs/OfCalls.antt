@@ -1,6 +1,9 @@
--- Calls: that each has one outcome (`OneOutcome`), checked beforehand (`HandlerChecks`), leaves the router in order (`RouterOrder`) and much as it
--- was (`UnchangedParts`, `OtherElements`); a swap to the same names (`SameNames`), polls (`DeviceSources`), and the router's own handlers
--- (`OwnHandlers`, `Listings`).
+-- Lemmas about calls.
+--
+-- Each call has one outcome (`OneOutcome`), which a check foretells (`HandlerChecks`). It leaves
+-- the router in order (`RouterOrder`) and changes little else (`UnchangedParts`, `OtherElements`).
+-- Other lemmas are about a swap to the same names (`SameNames`), polls (`DeviceSources`), and
+-- global handlers (`OwnHandlers`, `Listings`).
 pub mod DeviceSources
 pub mod HandlerChecks
 pub mod Listings

@@ -1,5 +1,5 @@
--- From a text to the router that it opens: its names (`DistinctNames`), its first states (`FirstStates`), and that it opens one state or has one
--- fault (`OneOpening`, `OneFault`).
+-- Lemmas about the router that a text opens: its names (`DistinctNames`) and its first states
+-- (`FirstStates`); and that a text opens one state or has one fault (`OneOpening`, `OneFault`).
 pub mod DistinctNames
 pub mod FirstStates
 pub mod OneFault

@@ -1,4 +1,4 @@
--- The line of a configuration's fault.
+-- The line of text of a fault.
 use Rattle.std.specs.Prelude.{ℕ, List, [], ◌++◌, codes, decimal}
 use Rattle.click_text.specs.declared.syntax.FaultKind.TheVariants as text_kind
 use Rattle.click_text.specs.FaultText as of_text
@@ -13,7 +13,7 @@ use Rattle.click_router.specs.declared.fault.ConfigFault.{ConfigFault}
 use Rattle.click_classes.specs.declared.ports.Side.{Side}
 use Rattle.click_classes.specs.declared.ports.Side.TheVariants as side
 
--- its number and its name, as its layer has them
+-- the number and the name of a kind, as its layer has them
 abbrev pub kind_text : FaultKind → List ℕ
 kind_text kind.NoMemory = of_text.kind_text text_kind.NoMemory
 kind_text (kind.Text k) = of_text.kind_text k
@@ -21,7 +21,7 @@ kind_text (kind.Expansion k) = of_expansion.kind_text k
 kind_text (kind.Argument k) = of_argument.kind_text k
 kind_text (kind.Port k) = of_port.kind_text k
 
--- the ports of a side, and one of them
+-- the words for the ports of a side, and for one of them
 abbrev pub ports_text : Side → List ℕ
 ports_text side.Input = codes " inputs "
 ports_text side.Output = codes " outputs "
@@ -30,7 +30,7 @@ abbrev pub port_text : Side → List ℕ
 port_text side.Input = codes " input "
 port_text side.Output = codes " output "
 
--- where it stands
+-- the words for a position
 abbrev pub place_text : FaultPlace → List ℕ
 place_text place.Nowhere = []
 place_text (place.At line column) = codes " at " ++ decimal line ++ codes ":" ++ decimal column

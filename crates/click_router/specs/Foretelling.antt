@@ -1,4 +1,4 @@
--- What a check says beforehand of the call that asks for what it checked.
+-- What a check foretells of a call that reads or writes the handler.
 use Rattle.std.specs.Prelude.{◌≡◌, Bool, true, false}
 use Rattle.click_router.specs.One.{check_reply}
 use Rattle.click_router.specs.declared.call.Refusal.{Refusal}
@@ -8,7 +8,7 @@ use Rattle.click_router.specs.declared.call.Reply.TheVariants as reply
 use Rattle.click_router.specs.declared.check.Check.{Check}
 use Rattle.click_router.specs.declared.check.Check.TheVariants as answer
 
--- the refusals of what is not there to be asked that way
+-- the refusals of a handler that does not exist in this direction
 abbrev pub lacks_handler : Refusal → Bool
 lacks_handler refusal.NoElement = true
 lacks_handler refusal.NoHandler = true
@@ -26,7 +26,8 @@ is_of_none (reply.Worked count) = false
 is_of_none (reply.Sent packet) = false
 is_of_none reply.NoDevice = false
 
--- Where a check says yes, the call is not refused for want of a handler; where it says anything else, the call has just the reply of the check.
+-- If the answer of the check is Yes, the call is not refused as NoElement, NoHandler or WrongWay.
+-- Otherwise the call has the reply of the check.
 abbrev pub Foretells : Check → Reply → Type 0
 Foretells answer.Yes r = is_of_none r ≡ false
 Foretells answer.NoElement r = r ≡ check_reply answer.NoElement

@@ -1,5 +1,5 @@
--- The router's own handlers (Click manual, "Handlers": global handlers). Their names have no dot, they are read and never written, and they make nothing of the
--- text that they are read with.
+-- Global handlers that can be read (Click manual, "Handlers": global handlers). Their names have no
+-- dot, and they ignore the text that they are read with.
 use Rattle.std.specs.Prelude.{ℕ, List, ◌++◌, length, flat_map, codes, decimal, Option, Some, None, Bool, ◌||◌, if◌then◌else◌}
 use Rattle.std.specs.Str.{bytes_eq}
 use Rattle.click_base.specs.Classes.{classes, name}
@@ -7,11 +7,11 @@ use Rattle.click_expand.specs.FlatText.{flat_text_of}
 use Rattle.click_expand.specs.declared.flat.FlatElement.{FlatElement}
 use Rattle.click_router.specs.State.{RouterState}
 
--- what each is called, each time with a line end
+-- the names of the items, each with a line end
 abbrev pub lines_of : {X : Type 0} → (X → List ℕ) → List X → List ℕ
 lines_of called xs = flat_map (λ x. called x ++ codes "\n") xs
 
--- how many elements there are, and then their names
+-- the number of elements, and then their names
 abbrev pub element_list : List FlatElement → List ℕ
 element_list es = (decimal (length es) ++ codes "\n") ++ lines_of (λ (e : FlatElement). e.name) es
 
@@ -19,8 +19,10 @@ element_list es = (decimal (length es) ++ codes "\n") ++ lines_of (λ (e : FlatE
 abbrev pub class_list : List ℕ
 class_list = lines_of name classes
 
--- What the router's own handler of that name answers, if there is one: the version, which is 1; the elements' flat names in flat order; the installed text as it
--- was given; the text of the flat form; the classes in the order of the reference; how many pushes and pulls found no crossing left.
+-- The value of the global handler with that name, if it can be read. `version` is 1. `list` has the
+-- flat names in flat order, and `config` is the installed text, unchanged. `flatconfig` is the text
+-- of the flat form. `classes` has the classes in the order of the reference, and `overruns` the
+-- number of overruns.
 unfoldable pub global_value : RouterState → List ℕ → Option (List ℕ)
 global_value s handler =
     if bytes_eq handler (codes "version") then Some (codes "1")

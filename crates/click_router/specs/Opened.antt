@@ -1,4 +1,4 @@
--- What a text opens: a router's first state, or the text's first fault.
+-- What a text opens: the first state of a router, or the text's first fault.
 use Rattle.std.specs.Prelude.{◌≡◌, ◌⊎◌, ℕ, ◌+◌, ◌≤◌, List, [], ◌∷◌, ◌++◌, length, take, count_by, take_while, reverse, not, nat_eq, slice_get, Option, Some, None, Result, Ok, Err}
 use Rattle.click_text.specs.declared.syntax.Span.{Span}
 use Rattle.click_text.specs.declared.syntax.FaultKind.TheVariants as text_kind
@@ -27,18 +27,18 @@ use Rattle.click_router.specs.declared.fault.FaultPlace.{FaultPlace}
 use Rattle.click_router.specs.declared.fault.FaultPlace.TheVariants as place
 use Rattle.click_router.specs.declared.fault.ConfigFault.{ConfigFault}
 
--- what `make` of the element's class and text answers
+-- the result of `make` for the element's class and configuration string
 abbrev pub IsBegun : FlatElement → Result State ArgFault → Type 0
 IsBegun e r = IsMade e.class e.text r
 
--- each element's first state
+-- the first state of each element
 abbrev pub AreFresh : List FlatElement → List State → Type 0
 AreFresh [] [] = Unit {0}
 AreFresh (e ∷ es) (q ∷ qs) = IsBegun e (Ok q) × AreFresh es qs
 AreFresh [] (q ∷ qs) = ⊥
 AreFresh (e ∷ es) [] = ⊥
 
--- the rules of ports hold of the elements' states and the connections
+-- the port rules hold for the elements' states and the connections
 abbrev pub IsLawful : Flat → List State → Type 0
 IsLawful flat states = Lawful (net_of flat states).shapes (net_of flat states).connections
 
@@ -49,7 +49,7 @@ pub record Begins (flat : Flat) (plant : Plant) : Type 0 where
   pub lawful : IsLawful flat states
   pub started : IsStarted (net_of flat states) states plant
 
--- the elements and connections are those of the configuration, and the plant of them begins
+-- the elements and connections are those of the configuration, and the plant begins with them
 pub record OpensAs (config : Config) (flat : Flat) (plant : Plant) : Type 0 where
   pub is_flat : IsFlat config flat
   pub begins : Begins flat plant
@@ -62,7 +62,8 @@ pub record IsOpened (text : List ℕ) (s : RouterState) : Type 0 where
   pub opens : OpensAs config s.flat s.plant
   pub copy : s.text ≡ text
 
--- a fault at a place of the text: lines are counted by the LF bytes before it, columns by the bytes after the last of them, both from 1
+-- A fault at a position in the text. The line is counted by the LF bytes before it, and the column
+-- by the bytes after the last of them, both from 1.
 abbrev pub line_at : List ℕ → ℕ → ℕ
 line_at text at = count_by (λ b. nat_eq b 10) (take at text) + 1
 
@@ -86,7 +87,7 @@ of_text_fault text f = elim f.kind [
   | k ↦ fault_at (kind.Text k) text f.span
 ]
 
--- a fault of names, classes, parameters, ports of compounds, limits, or an element's text
+-- a fault of names, classes, parameters, ports of compounds, limits, or configuration strings
 abbrev pub span_place : List ℕ → Option Span → FaultPlace
 span_place text None = place.Nowhere
 span_place text (Some s) = place_at text s
@@ -107,7 +108,7 @@ argument_kind f = kind.Argument f
 abbrev pub of_argument_fault : FlatElement → ArgFault → ConfigFault
 of_argument_fault e f = record { kind = argument_kind f; place = place.Element e.name }
 
--- a fault of ports, at the element of that place
+-- a fault of port rules, at the element with an index
 abbrev pub name_in : Option FlatElement → List ℕ
 name_in None = []
 name_in (Some e) = e.name
@@ -122,8 +123,8 @@ of_port_fault es f = elim f.kind [
   | k ↦ record { kind = kind.Port k; place = place.Port (name_at es f.element) f.side f.number }
 ]
 
--- The first fault of a text: of the text itself, else of its flat form, else of the arguments of the first element whose arguments are refused, else
--- the first breach of the rules of ports.
+-- The first fault of a text. It is a fault of the text itself, else of its flat form, else of the
+-- first element that refuses its arguments, else the first breach of a port rule.
 pub data IsFirstFault : List ℕ → ConfigFault → Type 0 where
   unreadable : (text : List ℕ) (f : TextFault) → IsAnswered text f → IsFirstFault text (of_text_fault text f)
   not_flat : (text : List ℕ) (config : Config) (f : ExpandFault) → length text ≤ longest_text → Spells text config →
@@ -135,14 +136,14 @@ pub data IsFirstFault : List ℕ → ConfigFault → Type 0 where
       IsFlat config flat → AreFresh flat.elements states → IsFirstBreach (net_of flat states).shapes (net_of flat states).connections f →
       IsFirstFault text (of_port_fault flat.elements f)
 
--- memory ran out
+-- out of memory
 abbrev pub IsMemory : ConfigFault → Type 0
 IsMemory f = f ≡ fault_nowhere kind.NoMemory
 
 abbrev pub IsMemoryOr : ConfigFault → Type 0 → Type 0
 IsMemoryOr f P = IsMemory f ⊎ P
 
--- that state, unless memory ran out
+-- the result is that state, or out of memory
 abbrev pub IsGiven : Result RouterState ConfigFault → RouterState → Type 0
 IsGiven (Ok r) s = r ≡ s
 IsGiven (Err f) s = IsMemory f

@@ -1,4 +1,4 @@
--- A router: its text, its elements and connections, and the plant that its packets go through.
+-- The state of a router: its text, its elements and connections, and its plant.
 use Rattle.std.specs.Prelude.{ℕ, List}
 use Rattle.click_engine.specs.Plant.{Plant}
 use Rattle.click_expand.specs.declared.flat.Flat.{Flat}

@@ -1,4 +1,4 @@
--- A reply as a history keeps it.
+-- A reply in the form that a history stores.
 use Rattle.std.specs.Prelude.{Some, None}
 use Rattle.click_router.specs.declared.call.Refusal.TheVariants as refusal
 use Rattle.click_router.specs.declared.call.Reply.{Reply}

@@ -1,3 +1,3 @@
--- What the code keeps on its way; no public contract cites it.
+-- Definitions that only the crate's own proofs use. No public contract cites them.
 pub mod GlobalNames
 pub mod Refused

@@ -1,4 +1,4 @@
-//! What a router is asked, and what it answers.
+//! The calls that a router takes, and the replies that it gives.
 
 ghost use Rattle.std.specs.Prelude.{◌≡◌, false, IfOk};
 ghost use Rattle.click_router.specs.One.{refusal_of, refusal_holds};
@@ -11,44 +11,47 @@ use click_packet::{Packet, StoredPacket};
 use std::alloc::{AllocError, Global};
 use thiserror::Error;
 
-/// One call of a router.
+/// A call of a router: one request to it.
 #[derive(Drop)]
 pub enum Call {
-    /// Reads a handler, named as `element.handler`, or without a dot one of the router itself. The text goes to the handler.
+    /// Reads a handler, named `element.handler`. A name without a dot is a global handler. The text
+    /// is passed to the handler.
     Read {
         name: Sequence<u8>,
         text: Sequence<u8>,
     },
-    /// Writes a handler, named as `element.handler`, with the text. A write of `hotconfig` is a swap.
+    /// Writes the text to a handler, named `element.handler`. A write to `hotconfig` is a swap.
     Write {
         name: Sequence<u8>,
         text: Sequence<u8>,
     },
-    /// Asks whether a handler can be read.
+    /// Checks whether a handler can be read.
     CheckRead {
         name: Sequence<u8>,
     },
-    /// Asks whether a handler can be written.
+    /// Checks whether a handler can be written.
     CheckWrite {
         name: Sequence<u8>,
     },
-    /// The configuration of the text takes the place of the running one, or is refused and changes nothing.
+    /// Replaces the running configuration by the one that the text spells. A refused swap changes
+    /// nothing.
     Swap {
         text: Sequence<u8>,
     },
-    /// A packet enters from a device.
+    /// Lets a packet enter at the FromDevice of the device.
     Arrive {
         device: Sequence<u8>,
         packet: StoredPacket,
     },
-    /// Packets enter from a device one after another.
+    /// Lets packets enter at the FromDevice of the device, one after another. At a desk, `taken`
+    /// has the packets that were drawn from the device's feed.
     Poll {
         device: Sequence<u8>,
         taken: Sequence<StoredPacket>,
     },
-    /// Each task runs once in flat order.
+    /// Runs each task once, in flat order.
     Round,
-    /// A device takes one packet.
+    /// Pulls one packet at the ToDevice of the device.
     Transmit {
         device: Sequence<u8>,
     },
@@ -71,7 +74,8 @@ impl Call {
     ghost use Rattle.std.specs.Prelude.{◌≡◌, Some, None, IfOk, MatchOption};
     ghost use Rattle.click_router.specs.One.{swap_text};
 
-    /// The text that the call asks to take over, if it asks that.
+    /// Returns the configuration text of a Swap or of a write to `hotconfig`, and `None` for other
+    /// calls.
     pub fn swap_text(&self) -> Option<&[u8]>
         ensures { MatchOption result (swap_text self.now ≡ None) (λ text. swap_text self.now ≡ Some text.now) }
     {
@@ -88,7 +92,7 @@ impl Call {
         }
     }
 
-    /// An equal call.
+    /// Returns an equal call, or fails with out of memory.
     pub fn copy(&self, alloc: Global) -> Result<Call, AllocError>
         ensures { IfOk result (λ copy. copy ≡ self.now) }
     {
@@ -126,50 +130,53 @@ impl Call {
     }
 }
 
-/// Why a call is refused.
+/// The reason why a call is refused.
 #[derive(Debug, Drop, Error)]
 pub enum Refusal {
     #[error("no element has that name")]
     NoElement,
     #[error("there is no handler of that name")]
     NoHandler,
-    /// It can be written and not read, or read and not written.
+    /// The handler exists only in the opposite direction. Reads, writes and both checks are refused
+    /// for this reason.
     #[error("the handler is for the other way alone")]
     WrongWay,
-    /// What the handler says.
+    /// The fault that the handler reports.
     #[error(transparent)]
     Handler(HandlerFault),
-    /// What is wrong with the configuration.
+    /// The first fault of the configuration.
     #[error(transparent)]
     Config(ConfigFault),
 }
 
-/// What a call is answered.
+/// The reply to a call.
 #[derive(Drop)]
 pub enum Reply {
-    /// What was read.
+    /// The value that was read.
     Value(Sequence<u8>),
-    /// The handler was written, or can be asked so; or the configuration runs.
+    /// The handler was written, the check succeeded, or the configuration was installed.
     Done,
     Refused(Refusal),
-    /// How many packets entered.
+    /// The number of packets that entered.
     Entered(u64),
-    /// How many packets the tasks gave or pulled.
+    /// The number of packets that the tasks emitted or pulled, at most 2^64 - 1.
     Worked(u64),
-    /// The packet that the device took, if there was one.
+    /// The packet that the device took, if it got one.
     Sent(Option<Packet>),
-    /// No element is where the device gives or takes packets.
+    /// Arrive and Poll: no FromDevice names the device. Transmit: no ToDevice names it.
     NoDevice,
 }
 
-/// Why a call was not answered. It has changed nothing.
+/// The reason why a call failed. A call that fails changes nothing.
 #[derive(Clone, Copy, Debug, PartialEq, Eq, Error)]
 pub enum StepFault {
     #[error("out of memory")]
     NoMemory,
 }
 
-/// Why there is no handler of that name for one way.
+/// Returns the refusal of a read or a write of a handler that does not exist in this direction.
+///
+/// `has_other`: the handler exists in the opposite direction.
 pub(crate) fn refusal_of(has_other: bool) -> Refusal
     ensures is { result ≡ refusal_of has_other }
     ensures light { refusal_holds result ≡ false }

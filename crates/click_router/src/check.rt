@@ -1,4 +1,5 @@
-//! Whether a handler can be asked one way, by the names and the classes of the elements alone.
+//! Checks whether a handler can be read or written, from the names and classes of the elements
+//! alone.
 
 ghost use Rattle.std.specs.Prelude.{◌≡◌};
 ghost use Rattle.click_router.specs.One as spec;
@@ -9,26 +10,28 @@ use crate::stored_reply::{CompactReply, StoredReply};
 use click_base::Class;
 use click_handlers::{has_read, has_write};
 
-/// Which way a handler is asked.
+/// The direction of a handler call.
 #[derive(Clone, Copy, Debug, PartialEq, Eq)]
 pub enum Direction {
     Read,
     Write,
 }
 
-/// Whether a handler can be asked one way (Click manual, "Handlers"). A name is parted at its last dot; one without a dot names a handler of the router itself.
+/// The answer to a check: whether a handler can be read, or written (Click manual, "Handlers").
+///
+/// A name is split at its last dot. A name without a dot is a global handler.
 #[derive(Clone, Copy, Debug, PartialEq, Eq)]
 pub enum Check {
     Yes,
     /// No element has that name.
     NoElement,
-    /// There is no such handler, either way.
+    /// There is no such handler, neither to read nor to write.
     NoHandler,
-    /// There is such a handler for the other way alone.
+    /// There is such a handler in the opposite direction only.
     WrongWay,
 }
 
-/// What a check tells, by whether there is a handler for that way, and whether there is one for the other.
+/// Returns the answer of a check, by whether the handler exists in either direction.
 fn check_of(has: bool, has_other: bool) -> Check
     ensures { result ≡ spec.check_of has has_other }
 {
@@ -41,7 +44,7 @@ fn check_of(has: bool, has_other: bool) -> Check
     }
 }
 
-/// Whether a handler of the router itself can be asked one way.
+/// Checks whether a global handler can be read or written.
 pub(crate) fn check_own(way: Direction, name: &[u8]) -> Check
     ensures { result ≡ spec.check_of (spec.has_own way name.now) (spec.has_own (spec.other_way way) name.now) }
 {
@@ -51,7 +54,8 @@ pub(crate) fn check_own(way: Direction, name: &[u8]) -> Check
     }
 }
 
-/// Whether a handler of an element of this class can be asked one way. Without a class there is no element.
+/// Checks whether a handler of an element with this class can be read or written. `None` stands for
+/// no element.
 pub(crate) fn check_element(class: Option<Class>, way: Direction, handler: &[u8]) -> Check
     ensures { result ≡ spec.check_element class way handler.now }
 {
@@ -64,7 +68,7 @@ pub(crate) fn check_element(class: Option<Class>, way: Direction, handler: &[u8]
     }
 }
 
-/// The reply to a call that checks.
+/// Returns the reply to CheckRead or CheckWrite.
 pub(crate) fn check_reply(check: Check) -> StoredReply
     ensures { result ≡ spec.check_reply check }
 {

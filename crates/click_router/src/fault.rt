@@ -1,4 +1,4 @@
-//! Why a configuration is refused, and the line that says so.
+//! The first fault of a configuration, and its line of text.
 
 ghost use Rattle.std.specs.Prelude.{◌≡◌, ◌++◌, IfOk, OnOk, decimal};
 ghost use Rattle.click_router.specs.FaultText.{kind_text, place_text, ports_text, port_text, fault_text};
@@ -14,41 +14,41 @@ use std::alloc::{AllocError, Global};
 use std::fmt;
 use thiserror::Error;
 
-/// What is wrong: memory ran out, or what one of the layers says. It prints as its number and its name.
+/// The kind of a fault: out of memory, or the fault of a layer. It prints as its number and name.
 #[derive(Clone, Copy, Debug, PartialEq, Eq)]
 pub enum FaultKind {
-    /// Memory ran out, in whichever layer.
+    /// Some layer ran out of memory.
     NoMemory,
-    /// The text is no configuration.
+    /// The text is not a configuration.
     Text(TextKind),
     /// The configuration has no flat form.
     Expansion(ExpandKind),
-    /// An element's arguments are refused.
+    /// An element refuses its arguments.
     Argument(ArgFault),
-    /// The rules of ports are broken.
+    /// A port rule is broken.
     Port(PortKind),
 }
 
-/// Where a fault stands.
+/// The position of a fault.
 #[derive(Debug, Drop)]
 pub enum FaultPlace {
     Nowhere,
-    /// At a place of the text: lines and columns are counted from 1, columns in bytes.
+    /// A position in the text. Lines and columns are counted from 1, columns in bytes.
     At {
         line: usize,
         column: usize,
     },
-    /// In the element of that name.
+    /// The element with this name.
     Element {
         name: Sequence<u8>,
     },
-    /// So many ports of that side of the element are used.
+    /// A side of an element, with the number of ports that are used there.
     Used {
         name: Sequence<u8>,
         side: Side,
         used: u16,
     },
-    /// At a port of the element.
+    /// A port of an element.
     Port {
         name: Sequence<u8>,
         side: Side,
@@ -56,7 +56,7 @@ pub enum FaultPlace {
     },
 }
 
-/// The first fault of a configuration.
+/// The first fault of a configuration: its kind and its position.
 #[derive(Debug, Drop, Error)]
 #[error("{kind}{place}")]
 pub struct ConfigFault {
@@ -65,7 +65,7 @@ pub struct ConfigFault {
 }
 
 impl FaultKind {
-    /// Its number and its name.
+    /// Returns the number and the name of the kind.
     pub fn text(self) -> &'static str
         ensures { result.now ≡ kind_text self }
     {
@@ -85,7 +85,7 @@ impl fmt::Display for FaultKind {
     }
 }
 
-/// The ports of a side.
+/// Returns the word for the ports of a side, between blanks.
 fn ports_of(side: Side) -> &'static str
     ensures { result.now ≡ ports_text side }
 {
@@ -95,7 +95,7 @@ fn ports_of(side: Side) -> &'static str
     }
 }
 
-/// A port of a side.
+/// Returns the word for one port of a side, between blanks.
 fn port_of(side: Side) -> &'static str
     ensures { result.now ≡ port_text side }
 {
@@ -105,7 +105,7 @@ fn port_of(side: Side) -> &'static str
     }
 }
 
-/// Adds a number in decimal digits.
+/// Appends a number in decimal digits.
 fn push_number(line: &mut Vec<u8>, number: usize) -> Result<(), AllocError>
     ensures { OnOk result (line.new.items ≡ line.old.items ++ decimal number) }
 {
@@ -115,7 +115,7 @@ fn push_number(line: &mut Vec<u8>, number: usize) -> Result<(), AllocError>
 }
 
 impl FaultPlace {
-    /// Adds the words that tell the place.
+    /// Appends the words for the position.
     fn push_to(&self, line: &mut Vec<u8>) -> Result<(), AllocError>
         ensures { OnOk result (line.new.items ≡ line.old.items ++ place_text self.now) }
     {
@@ -147,7 +147,7 @@ impl FaultPlace {
         Ok(())
     }
 
-    /// An equal place.
+    /// Returns an equal position.
     fn copy(&self, alloc: Global) -> Result<FaultPlace, AllocError>
         ensures { IfOk result (λ copy. copy ≡ self.now) }
     {
@@ -174,7 +174,7 @@ impl FaultPlace {
     }
 }
 
-/// A name as text; names are words of ASCII.
+/// Returns a name as text. Names are ASCII; one that is not UTF-8 would be `?`.
 fn name_text(name: &Sequence<u8>) -> &str {
     std::str::from_utf8(name.as_slice()).unwrap_or("?")
 }
@@ -196,7 +196,9 @@ impl fmt::Display for FaultPlace {
 }
 
 impl ConfigFault {
-    /// The fault in one line: its number, its name, and where it stands, as `31 Count at Counter@1 inputs 0`.
+    /// Returns the fault as a line without its end, such as `31 Count at Counter@1 inputs 0`.
+    ///
+    /// The line has the number, the name and the position of the fault.
     pub fn text(&self, alloc: Global) -> Result<Vec<u8>, AllocError>
         ensures { IfOk result (λ text. text.items ≡ fault_text self.now) }
     {
@@ -205,7 +207,7 @@ impl ConfigFault {
         Ok(line)
     }
 
-    /// An equal fault.
+    /// Returns an equal fault.
     pub fn copy(&self, alloc: Global) -> Result<ConfigFault, AllocError>
         ensures { IfOk result (λ copy. copy ≡ self.now) }
     {

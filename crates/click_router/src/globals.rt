@@ -1,4 +1,4 @@
-//! The router's own handlers, whose names have no dot.
+//! Global handlers: the handlers of the router itself, whose names have no dot.
 
 ghost use Rattle.std.specs.Prelude.{◌≡◌, ◌++◌, None, Some, is_some, codes, decimal, IfOk, OnOk, MatchOption};
 ghost use Rattle.click_base.specs.Classes.{name};
@@ -12,7 +12,7 @@ use click_expand::FlatElement;
 use itoa::Buffer;
 use std::alloc::{AllocError, Global};
 
-/// A handler of the router itself.
+/// A global handler that can be read.
 #[derive(Clone, Copy)]
 pub(crate) enum GlobalHandler {
     Version,
@@ -23,7 +23,7 @@ pub(crate) enum GlobalHandler {
     Overruns,
 }
 
-/// The router's own handler of that name.
+/// Returns the global handler with that name, if it can be read.
 #[tactic(auto, unfolding(crate::specs::Globals::global_value))]
 pub(crate) fn named(name: &[u8]) -> Option<GlobalHandler>
     ensures known { is_some result ≡ is_global name.now }
@@ -50,7 +50,7 @@ pub(crate) fn named(name: &[u8]) -> Option<GlobalHandler>
     None
 }
 
-/// Whether the router itself has a handler of that name.
+/// Returns whether a global handler with that name can be read.
 pub(crate) fn has_global(name: &[u8]) -> bool
     ensures known { result ≡ is_global name.now }
     ensures answered { (s : RouterState) → result ≡ is_some (global_value s name.now) }
@@ -58,14 +58,14 @@ pub(crate) fn has_global(name: &[u8]) -> bool
     named(name).is_some()
 }
 
-/// Whether it is the name of the one handler of the router itself that is written.
+/// Returns whether the name is `hotconfig`, the only global handler that can be written.
 pub(crate) fn is_hotconfig(name: &[u8]) -> bool
     ensures { result ≡ is_hotconfig name.now }
 {
     name == b"hotconfig".as_slice()
 }
 
-/// Adds a line with its end.
+/// Appends a line and its end.
 fn push_line(text: &mut Vec<u8>, line: &[u8]) -> Result<(), AllocError>
     ensures { OnOk result (text.new.items ≡ text.old.items ++ (line.now ++ codes "\n")) }
 {
@@ -73,7 +73,7 @@ fn push_line(text: &mut Vec<u8>, line: &[u8]) -> Result<(), AllocError>
     text.extend_from_slice(b"\n")
 }
 
-/// A number in decimal digits.
+/// Returns a number in decimal digits.
 pub(crate) fn number_text(alloc: Global, number: u64) -> Result<Vec<u8>, AllocError>
     ensures { IfOk result (λ text. text.items ≡ decimal number) }
 {
@@ -81,7 +81,7 @@ pub(crate) fn number_text(alloc: Global, number: u64) -> Result<Vec<u8>, AllocEr
     Vec::from_slice(alloc, digits.format(number).as_bytes())
 }
 
-/// How many elements there are, and their names.
+/// Returns the number of elements and their names, each on a line.
 pub(crate) fn list_text(alloc: Global, elements: &[FlatElement]) -> Result<Vec<u8>, AllocError>
     ensures { IfOk result (λ text. text.items ≡ element_list elements.now) }
 {
@@ -94,7 +94,7 @@ pub(crate) fn list_text(alloc: Global, elements: &[FlatElement]) -> Result<Vec<u
     Ok(text)
 }
 
-/// The names of classes.
+/// Returns the names of the classes, each on a line.
 pub(crate) fn classes_text(alloc: Global, classes: &[Class]) -> Result<Vec<u8>, AllocError>
     ensures { IfOk result (λ text. text.items ≡ lines_of name classes.now) }
 {

@@ -1,4 +1,4 @@
-//! Calls of handlers, answered through the rows of a table.
+//! Answers calls through the rows of a handler table.
 
 ghost use Rattle.std.specs.Prelude.{◌≡◌, ◌≢◌, ◌<◌, ◌≤◌, ℕ, List, Result, length, Ok, Err, None, Some, slice_get, slice_index_or, true, IfOk, IfErr, IfSome, MatchOption, MatchResult};
 ghost use Rattle.click_classes.specs.State.{class};
@@ -20,12 +20,14 @@ use click_handlers::{HandlerFault, ReadRow, Table, WriteRow};
 use click_packet::PacketRoom;
 use std::alloc::Global;
 
-/// What answers the calls of a router: a table of handlers. All that stands above a router is generic in it.
+/// A table of handlers, through which a router answers its calls.
+///
+/// Everything above the router is generic in it.
 pub trait Handlers {
     ghost use Rattle.std.specs.Prelude.{◌≡◌, true, is_some, IfOk, IfErr, MatchResult};
     ghost use Rattle.click_router.specs.One.{Answers, takes_memory, holds_memory, is_transmit};
 
-    /// Answers one call, as `Router::record` says it.
+    /// Answers one call. Its contract is that of `Router::record`.
     fn record(
         &self,
         running: &mut RunningConfig,
@@ -39,7 +41,7 @@ pub trait Handlers {
         ensures light { IfOk result (λ reply. holds_memory reply ≡ true → running.new ≡ running.old) };
 }
 
-/// The reply to what a read handler answers.
+/// Returns the reply to the answer of a read handler. Fails if the handler ran out of memory.
 fn read_reply(answer: Result<Vec<u8>, HandlerFault>) -> Result<StoredReply, StepFault>
     ensures { (value : Result (List ℕ) HandlerFault) → IsReadAnswer value answer → IfOk result (λ reply. reply ≡ spec.read_reply value) }
 {
@@ -99,7 +101,7 @@ fn read(
     }
 }
 
-/// What a write handler says; `Err` where memory ran out.
+/// Returns the reply to the answer of a write handler. Fails if the handler ran out of memory.
 fn write_reply(fault: Option<HandlerFault>) -> Result<StoredReply, StepFault>
     ensures { MatchOption fault (result ≡ Ok Reply.Done) (λ f. MatchResult result (λ reply. (reply ≡ Reply.Refused (Refusal.Handler f)) × (f ≢ HandlerFault.NoMemory)) (λ _. f ≡ HandlerFault.NoMemory)) }
 {
@@ -110,7 +112,8 @@ fn write_reply(fault: Option<HandlerFault>) -> Result<StoredReply, StepFault>
     }
 }
 
-/// Writes a handler of the element at a place, through its row. `Err`: memory ran out, and nothing has changed.
+/// Writes a handler of the element at an index, through its row. Fails with out of memory, and
+/// changes nothing then.
 fn write_row(
     row: &WriteRow,
     plant: &mut Plant,
@@ -138,7 +141,7 @@ fn write_row(
     write_reply(fault)
 }
 
-/// Writes a handler of the element at a place.
+/// Writes a handler of the element at an index.
 fn write_element(
     table: &Table,
     plant: &mut Plant,
@@ -160,7 +163,7 @@ fn write_element(
     }
 }
 
-/// Writes a handler that is no swap.
+/// Writes a handler other than `hotconfig`.
 fn write(
     table: &Table,
     running: &mut RunningConfig,

@@ -1,4 +1,4 @@
-//! What of a configuration is published: enough to answer checks, and no more.
+//! The part of a configuration that is published to views: enough to answer checks.
 
 ghost use Rattle.std.specs.Prelude.{◌≡◌, map, position, IfOk};
 ghost use Rattle.std.specs.Str.{bytes_eq};
@@ -15,7 +15,7 @@ use click_expand::FlatElement;
 use std::alloc::{AllocError, Global};
 use std::marker::Model;
 
-/// The names of the elements and their classes, in flat order.
+/// The flat names of the elements and their classes, in flat order.
 #[derive(Drop)]
 struct ElementIndex {
     names: Vec<Sequence<u8>>,
@@ -30,7 +30,7 @@ impl Model for ElementIndex {
     ghost view = { λ l. record { names = l.names.items; classes = l.classes.items } };
 }
 
-/// Copies of the names.
+/// Copies the names of the elements.
 fn names_of(alloc: Global, elements: &[FlatElement]) -> Result<Vec<Sequence<u8>>, AllocError>
     ensures { IfOk result (λ names. names.items ≡ map (λ e. e.name) elements.now) }
 {
@@ -41,7 +41,7 @@ fn names_of(alloc: Global, elements: &[FlatElement]) -> Result<Vec<Sequence<u8>>
     Ok(names)
 }
 
-/// The classes of the elements.
+/// Collects the classes of the elements.
 fn classes_of(alloc: Global, plant: &Plant) -> Result<Vec<Class>, AllocError>
     ensures { IfOk result (λ classes. classes.items ≡ map (λ e. class e.state) plant.now.elements) }
 {
@@ -52,14 +52,14 @@ fn classes_of(alloc: Global, plant: &Plant) -> Result<Vec<Class>, AllocError>
     Ok(classes)
 }
 
-/// Where a name stands.
+/// Returns the index of a name.
 fn place_of(names: &[Sequence<u8>], name: &[u8]) -> Option<usize>
     ensures { result ≡ position (bytes_eq name.now) names.now }
 {
     names.iter().position(|own| name == own.as_slice())
 }
 
-/// The class that stands where the name does.
+/// Returns the class at the index of a name.
 fn class_at(names: &[Sequence<u8>], classes: &[Class], name: &[u8]) -> Option<Class>
     ensures { result ≡ class_named (record { names = names.now; classes = classes.now }) name.now }
 {
@@ -76,7 +76,7 @@ impl ElementIndex {
     ghost use Rattle.std.specs.Prelude.{◌≡◌, map, IfOk};
     ghost use Rattle.click_router.specs.One as spec;
 
-    /// Those of what was prepared.
+    /// Collects the names and classes of a running configuration.
     fn of(alloc: Global, running: &RunningConfig) -> Result<ElementIndex, AllocError>
         ensures { IfOk result (λ l. l ≡ spec.listing_of running.now) }
     {
@@ -86,14 +86,14 @@ impl ElementIndex {
         })
     }
 
-    /// The class of the element of a name.
+    /// Returns the class of the element with that name.
     fn class_named(&self, name: &[u8]) -> Option<Class>
         ensures { result ≡ spec.class_named self.now name.now }
     {
         class_at(self.names.as_slice(), self.classes.as_slice(), name)
     }
 
-    /// Whether a handler can be asked one way.
+    /// Checks whether a handler can be read or written.
     fn check(&self, way: Direction, name: &[u8]) -> Check
         ensures { result ≡ spec.check self.now way name.now }
     {
@@ -103,7 +103,7 @@ impl ElementIndex {
         }
     }
 
-    /// Copies of the names.
+    /// Copies the names.
     fn names(&self, alloc: Global) -> Result<Vec<Vec<u8>>, AllocError>
         ensures { IfOk result (λ names. map (λ n. n.items) names.items ≡ self.now.names) }
     {
@@ -115,8 +115,10 @@ impl ElementIndex {
     }
 }
 
-/// A configuration that was prepared, as far as checks need it: the names of its elements and their classes. To a contract it is the configuration's text, and
-/// what it answers is what holds of the router that the text opens.
+/// The names and the classes of a prepared configuration, which is all that checks need.
+///
+/// To a contract it is the configuration's text. Its answers hold of the router that the text
+/// opens.
 #[derive(Drop)]
 pub struct Install {
     text: Sequence<u8>,
@@ -139,7 +141,7 @@ impl Install {
     ghost use Rattle.click_router.specs.One.{Listing, IsListing, check};
     ghost use Rattle.click_router.specs.Opened.{IsOpened};
 
-    /// What checks need of a prepared configuration, copied. `Err`: memory ran out.
+    /// Copies the names and classes of a prepared configuration.
     pub fn of_prepared(
         alloc: Global,
         text: &[u8],
@@ -154,14 +156,14 @@ impl Install {
         })
     }
 
-    /// Whether a handler can be asked one way, in the configuration that the text opens. It takes no memory.
+    /// Checks whether a handler can be read or written in the configuration. Allocates nothing.
     pub fn check(&self, way: Direction, name: &[u8]) -> Check
         ensures { (l : Listing) × IsListing self.now l × (result ≡ check l way name.now) }
     {
         self.listed.check(way, name)
     }
 
-    /// The names of the elements, in flat order. `Err`: memory ran out.
+    /// Copies the names of the elements, in flat order.
     pub fn names(&self, alloc: Global) -> Result<Vec<Vec<u8>>, AllocError>
         ensures { IfOk result (λ names. (l : Listing) × IsListing self.now l × (map (λ n. n.items) names.items ≡ l.names)) }
     {

@@ -1,4 +1,4 @@
-//! The router: a configuration is prepared, opened, and answers one call after another.
+//! The router: a configuration is prepared and opened, and then answers one call after another.
 #![tactic(auto)]
 
 mod call;

@@ -1,4 +1,4 @@
-//! From a text to a router that can be opened.
+//! Prepares a router from a text.
 
 ghost use Rattle.std.specs.Prelude.{◌≡◌, ◌⊎◌, ◌<◌, ◌≤◌, ◌∷◌, [], ◌++◌, OnOk, length, IfOk, IfErr, Ok, Err};
 ghost use Rattle.click_text.specs.Spelling.{longest_text};
@@ -20,8 +20,9 @@ use click_text::{LONGEST_TEXT, parse};
 use std::alloc::{AllocError, Global};
 use std::marker::Model;
 
-/// A lawful configuration with the plant of its elements, ready to run. It stands in a box, so that a router costs little to move: a desk hands it from
-/// thread to thread.
+/// A lawful configuration with its plant, ready to run.
+///
+/// perf: boxed, so that a router is cheap to move. A desk passes it from thread to thread.
 #[derive(Drop)]
 pub struct Prepared {
     pub(crate) running: Box<RunningConfig>,
@@ -38,7 +39,7 @@ impl Model for Prepared {
 impl Prepared {
     ghost use Rattle.std.specs.Prelude.{◌≡◌};
 
-    /// Its flat form.
+    /// Returns the flat form.
     pub fn flat(&self) -> &Flat
         ensures { result.now ≡ self.now.flat }
     {
@@ -46,7 +47,7 @@ impl Prepared {
     }
 }
 
-/// The line of the place: one more than the LF bytes before it.
+/// Returns the line of an offset: one more than the number of LF bytes before it.
 fn line_at(text: &[u8], at: usize) -> usize
     requires { length text.now ≤ longest_text }
     ensures { result ≡ spec.line_at text.now at }
@@ -55,7 +56,8 @@ fn line_at(text: &[u8], at: usize) -> usize
     before.iter().filter(|b| **b == b'\n').count() + 1
 }
 
-/// The column of the place: one more than the bytes between it and the last LF before it.
+/// Returns the column of an offset, from 1: the number of bytes since the last LF before it, plus
+/// one.
 fn column_at(text: &[u8], at: usize) -> usize
     requires { length text.now ≤ longest_text }
     ensures { result ≡ spec.column_at text.now at }
@@ -64,7 +66,7 @@ fn column_at(text: &[u8], at: usize) -> usize
     before.iter().rev().take_while(|b| **b != b'\n').count() + 1
 }
 
-/// A fault that stands nowhere.
+/// Returns a fault without a position.
 fn fault_nowhere(kind: FaultKind) -> ConfigFault
     ensures { result ≡ spec.fault_nowhere kind }
 {
@@ -74,7 +76,7 @@ fn fault_nowhere(kind: FaultKind) -> ConfigFault
     }
 }
 
-/// A fault where the span begins.
+/// Returns a fault at the position where the span begins.
 fn at(kind: FaultKind, text: &[u8], span: Span) -> ConfigFault
     requires { length text.now ≤ longest_text }
     ensures { result ≡ spec.fault_at kind text.now span }
@@ -88,7 +90,7 @@ fn at(kind: FaultKind, text: &[u8], span: Span) -> ConfigFault
     }
 }
 
-/// A fault of the text itself.
+/// Returns the fault for an error of the text itself.
 fn of_text_fault(text: &[u8], fault: TextFault) -> ConfigFault
     requires { length text.now ≤ longest_text }
     ensures { result ≡ spec.of_text_fault text.now fault }
@@ -100,7 +102,7 @@ fn of_text_fault(text: &[u8], fault: TextFault) -> ConfigFault
     }
 }
 
-/// A place where the span begins, if there is one.
+/// Returns the position where the span begins, or `Nowhere` if there is no span.
 fn span_place(text: &[u8], span: Option<Span>) -> FaultPlace
     requires { length text.now ≤ longest_text }
     ensures { result ≡ spec.span_place text.now span }
@@ -114,7 +116,7 @@ fn span_place(text: &[u8], span: Option<Span>) -> FaultPlace
     }
 }
 
-/// A fault of the flat form.
+/// Returns the fault for an error of the flat form.
 fn of_expand_fault(text: &[u8], fault: ExpandFault) -> ConfigFault
     requires { length text.now ≤ longest_text }
     ensures { result ≡ spec.of_expand_fault text.now fault }
@@ -145,7 +147,7 @@ impl From<AllocError> for ConfigFault {
     }
 }
 
-/// A copy of the name of the element at a place.
+/// Copies the name of the element at an index. The name is empty if there is no such element.
 fn name_at(
     alloc: Global,
     elements: &[FlatElement],
@@ -159,7 +161,7 @@ fn name_at(
     }
 }
 
-/// A fault of ports, at the element's name.
+/// Returns the fault for a breach of a port rule, at the element's name.
 fn of_port_fault(
     alloc: Global,
     elements: &[FlatElement],
@@ -181,7 +183,7 @@ fn of_port_fault(
     }
 }
 
-/// A fault of the number of ports that an element has on a side.
+/// Returns the fault for a wrong number of ports on a side of an element.
 fn of_port_count(
     alloc: Global,
     elements: &[FlatElement],
@@ -199,7 +201,7 @@ fn of_port_count(
     })
 }
 
-/// The kind of a fault of arguments.
+/// Returns the kind of a fault of arguments.
 fn argument_kind(fault: ArgFault) -> FaultKind
     ensures { result ≡ spec.argument_kind fault }
 {
@@ -209,7 +211,7 @@ fn argument_kind(fault: ArgFault) -> FaultKind
     }
 }
 
-/// The fault of an element whose arguments are refused.
+/// Returns the fault of an element that refuses its arguments.
 fn of_argument_fault(
     alloc: Global,
     element: &FlatElement,
@@ -225,7 +227,7 @@ fn of_argument_fault(
     })
 }
 
-/// The element's first state, or what is wrong with its arguments.
+/// Returns the first state of an element, or the fault of its arguments.
 fn state_of(alloc: Global, element: &FlatElement) -> Result<State, ConfigFault>
     ensures fresh { IfOk result (λ state. IsBegun element.now (Ok state)) }
     ensures err { IfErr result (λ f. IsMemoryOr f ((fault : ArgFault) × IsBegun element.now (Err fault) × (f ≡ spec.of_argument_fault element.now fault))) }
@@ -237,7 +239,7 @@ fn state_of(alloc: Global, element: &FlatElement) -> Result<State, ConfigFault>
     }
 }
 
-/// The first states of the elements, or the fault of the first whose arguments are refused.
+/// Returns the first states of the elements, or the first fault of an element's arguments.
 fn states_of(alloc: Global, elements: &[FlatElement]) -> Result<Vec<State>, ConfigFault>
     ensures fresh { IfOk result (λ v. AreFresh elements.now v.items) }
     ensures err { IfErr result (λ f. IsMemoryOr f (IsUnfit elements.now f)) }
@@ -249,7 +251,7 @@ fn states_of(alloc: Global, elements: &[FlatElement]) -> Result<Vec<State>, Conf
     Ok(states)
 }
 
-/// Adds a state at the end.
+/// Appends a state.
 fn push(states: &mut Vec<State>, state: State) -> Result<(), AllocError>
     ensures { OnOk result (states.new.items ≡ states.old.items ++ state ∷ []) }
 {
@@ -257,7 +259,7 @@ fn push(states: &mut Vec<State>, state: State) -> Result<(), AllocError>
     Ok(())
 }
 
-/// What is to run, in a box.
+/// Puts a configuration into a box.
 fn box_config(alloc: Global, running: RunningConfig) -> Result<Prepared, AllocError>
     ensures { IfOk result (λ p. p ≡ running) }
 {
@@ -266,7 +268,7 @@ fn box_config(alloc: Global, running: RunningConfig) -> Result<Prepared, AllocEr
     })
 }
 
-/// The router of a flat form, or its first fault.
+/// Prepares the router of a flat form, or returns the first fault.
 fn prepare_flat(alloc: Global, text: Sequence<u8>, flat: Flat) -> Result<Prepared, ConfigFault>
     ensures is { IfOk result (λ p. (p.text ≡ text) × (p.flat ≡ flat)) }
     ensures begins { IfOk result (λ p. Begins flat p.plant) }
@@ -282,7 +284,7 @@ fn prepare_flat(alloc: Global, text: Sequence<u8>, flat: Flat) -> Result<Prepare
     }
 }
 
-/// The router of a configuration, or its first fault.
+/// Prepares the router of a configuration, or returns the first fault.
 fn prepare_config(alloc: Global, config: Config) -> Result<Prepared, ConfigFault>
     requires within { length config.text ≤ longest_text }
     requires spelled { Spells config.text config }
@@ -295,18 +297,19 @@ fn prepare_config(alloc: Global, config: Config) -> Result<Prepared, ConfigFault
     }
 }
 
-/// The first state of the router of a text, or the text's first fault. Where memory runs out, that is the fault.
+/// Prepares the router of a text, or returns the first fault of the text. The fault is `NoMemory`
+/// if a layer runs out of memory.
 pub fn prepare(alloc: Global, text: &[u8]) -> Result<Prepared, ConfigFault>
-    // What is prepared is what the text opens.
+    // The prepared state is the one that the text opens.
     ensures opened { IfOk result (λ prepared. IsOpened text.now prepared) }
-    // What the text opens is prepared, unless memory runs out.
+    // If the text opens a state, that state is prepared, except when out of memory.
     ensures only { (state : RouterState) → IsOpened text.now state → IsGiven result state }
-    // Which fault it is.
+    // The fault is the first one of the text, except when out of memory.
     ensures err { IfErr result (λ fault. IsMemoryOr fault (IsFirstFault text.now fault)) }
-    // A text over the limit is refused for just that, also where memory would run out.
+    // A text over the limit is refused as `TooLarge`, never for another reason.
     ensures large { longest_text < length text.now → result ≡ Err (spec.fault_nowhere (FaultKind.Text TextKind.TooLarge)) }
 {
-    // Places are counted only in a text that may be read.
+    // Lines and columns are counted only in a text within the limit.
     if text.len() > LONGEST_TEXT {
         return Err(fault_nowhere(FaultKind::Text(TextKind::TooLarge)));
     }

@@ -1,4 +1,4 @@
-//! A running router.
+//! The router of one thread, which answers calls.
 
 use crate::call::{Call, Reply, StepFault};
 use crate::handling::Handlers;
@@ -9,7 +9,9 @@ use click_packet::{Packet, PacketRoom};
 use std::alloc::Global;
 use std::marker::Model;
 
-/// A router of one thread, with the table `T` that it answers handlers through. To a contract it is its text, its elements and the plant of them.
+/// A running router of one thread, with the handler table `T`.
+///
+/// To a contract it is its text, its flat form and its plant.
 #[derive(Drop)]
 pub struct Router<T> {
     running: Box<RunningConfig>,
@@ -33,7 +35,7 @@ impl<T> Router<T> {
     ghost use Rattle.click_router.specs.Polls.{poll, arrival, transmit};
     ghost use Rattle.click_router.specs.Swap.{taken};
 
-    /// Begins with what was prepared, and answers handlers through the table. It takes no memory.
+    /// Opens a prepared router, which answers handlers through the table. Allocates nothing.
     pub fn open(table: T, prepared: Prepared) -> Router<T>
         ensures { result ≡ prepared }
     {
@@ -43,7 +45,8 @@ impl<T> Router<T> {
         }
     }
 
-    /// Whether an element is where packets of the device enter. Where none is, a poll of the device is answered so.
+    /// Returns whether a FromDevice names the device. If none does, a Poll of the device is
+    /// answered with `NoDevice`.
     pub fn has_source(&self, device: &[u8]) -> bool
         ensures source { IsTrue result ↔ IsSome (source_of self.now.plant device.now) }
         ensures polled { (packets : List APacket) (next : RouterState) (reply : Reply) → Answers self.now (poll device.now packets) next reply → (result ≡ false) ↔ (reply ≡ Reply.NoDevice) }
@@ -51,7 +54,8 @@ impl<T> Router<T> {
         self.running.has_source(device)
     }
 
-    /// Whether an element is where packets of the device leave. Where none is, a transmit of the device is answered so.
+    /// Returns whether a ToDevice names the device. If none does, a Transmit of the device is
+    /// answered with `NoDevice`.
     pub fn has_sink(&self, device: &[u8]) -> bool
         ensures sink { IsTrue result ↔ IsSome (sink_of self.now.plant device.now) }
         ensures asked { (next : RouterState) (reply : Reply) → Answers self.now (transmit device.now) next reply → (result ≡ false) ↔ (reply ≡ Reply.NoDevice) }
@@ -59,29 +63,33 @@ impl<T> Router<T> {
         self.running.has_sink(device)
     }
 
-    /// What was prepared takes the place of what runs: a swap to a text that opens. Like-named queues of one class keep the packets that they have room for,
-    /// Counters their counts, and Switches their positions where they have these outputs; and the overruns go on. It takes no memory.
+    /// Installs a prepared configuration, as a swap to its text does. Allocates nothing.
+    ///
+    /// Elements take over from the old elements with their flat name and class. Queues take the
+    /// packets that they have room for, and Counters the counts. Switches take the position if it
+    /// is -1 or one of their outputs. The number of overruns is taken over too.
     pub fn install(&mut self, prepared: Prepared)
         ensures { self.new ≡ taken prepared self.old }
     {
         self.running.install(prepared);
     }
 
-    /// A packet enters from a device, as by a step of Arrive. It takes no memory.
+    /// Enters a packet of a device, as the call Arrive does. Allocates nothing.
     pub fn enter(&mut self, device: &[u8], packet: &Packet) -> Reply
         ensures { Answers self.old (arrival device.now packet.now) self.new result }
     {
         self.running.enter(device, packet)
     }
 
-    /// A device takes a packet, as by a step of Transmit. It takes no memory.
+    /// Takes a packet for a device, as the call Transmit does. Allocates nothing.
     pub fn transmit(&mut self, device: &[u8]) -> Reply
         ensures { Answers self.old (transmit device.now) self.new result }
     {
         self.running.transmit(device)
     }
 
-    /// Each task runs once, as a step of Round runs it. How many packets they gave or pulled, as its reply tells it.
+    /// Runs each task once, as the call Round does. Returns the number of packets that the tasks
+    /// emitted or pulled.
     pub fn round(&mut self) -> u64
         ensures { Answers self.old Call.Round self.new (Reply.Worked result) }
     {
@@ -93,8 +101,11 @@ impl<T: Handlers> Router<T> {
     ghost use Rattle.std.specs.Prelude.{◌≡◌, true, is_some, IfOk, IfErr, MatchResult};
     ghost use Rattle.click_router.specs.One.{Answers, takes_memory, holds_memory, is_transmit, sends_packet};
 
-    /// Answers one call. Where memory is refused nothing has changed, and only a read, a write of a queue's capacity or a swap takes memory. A reply that holds memory comes only from a call that changed nothing, and a packet
-    /// only from a transmit.
+    /// Answers one call.
+    ///
+    /// Fails with out of memory only for a read, a write of a queue's capacity or a swap, and
+    /// changes nothing then. Only a call that changed nothing has a reply that holds memory, and
+    /// only a Transmit one that holds a packet.
     #[inline(always)]
     pub fn step(&mut self, alloc: Global, call: &Call) -> Result<Reply, StepFault>
         ensures answer { MatchResult result (λ reply. Answers self.old call.now self.new reply) (λ _. self.new ≡ self.old) }
@@ -111,7 +122,11 @@ impl<T: Handlers> Router<T> {
         }
     }
 
-    /// Answers one call as `step` does, with a reply for a history, which is small. A transmit must have room for its packet.
+    /// Answers one call, as `step` does, with the reply in the form that a history stores.
+    ///
+    /// A Transmit needs `room` for its packet.
+    ///
+    /// perf: a `StoredReply` is small; a `Reply` has room for a packet.
     #[inline(always)]
     pub fn record(
         &mut self,

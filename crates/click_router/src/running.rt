@@ -1,4 +1,4 @@
-//! What runs: a configuration, what is asked of it, the packets that pass it, and the one that takes its place.
+//! The running configuration: its handlers, its packets, and how it is replaced.
 
 ghost use Rattle.std.specs.Prelude.{◌≡◌};
 ghost use Rattle.click_router.specs.One.{arrivals};
@@ -17,7 +17,7 @@ use click_packet::{Packet, PacketRoom, StoredPacket};
 use std::alloc::{AllocError, Global};
 use std::marker::Model;
 
-/// A lawful configuration with the plant of its elements.
+/// A lawful configuration with its plant.
 #[derive(Drop)]
 pub struct RunningConfig {
     pub(crate) text: Sequence<u8>,
@@ -37,7 +37,7 @@ impl Model for RunningConfig {
     ghost invariant = { λ r. r.plant.net.names ≡ names_of r.flat.elements };
 }
 
-/// Packets enter from a device one after another.
+/// Enters packets of a device, one after another.
 fn enter_all(plant: &mut Plant, device: &[u8], taken: &[StoredPacket])
     ensures { plant.new ≡ arrivals plant.old device.now taken.now }
 {
@@ -57,28 +57,28 @@ impl RunningConfig {
     ghost use Rattle.click_router.specs.Swap.{taken, Swaps};
     ghost use Rattle.click_router.specs.kept.GlobalNames.{name_of};
 
-    /// Its flat form.
+    /// Returns the flat form.
     pub(crate) fn flat(&self) -> &Flat
         ensures { result.now ≡ self.now.flat }
     {
         &self.flat
     }
 
-    /// Whether an element is where packets of the device enter.
+    /// Returns whether a FromDevice names the device.
     pub(crate) fn has_source(&self, device: &[u8]) -> bool
         ensures { IsTrue result ↔ IsSome (source_of self.now.plant device.now) }
     {
         self.plant.has_source(device)
     }
 
-    /// Whether an element is where packets of the device leave.
+    /// Returns whether a ToDevice names the device.
     pub(crate) fn has_sink(&self, device: &[u8]) -> bool
         ensures { IsTrue result ↔ IsSome (sink_of self.now.plant device.now) }
     {
         self.plant.has_sink(device)
     }
 
-    /// The element of a name, with its place.
+    /// Returns the element with that flat name, and its index.
     pub(crate) fn find(&self, name: &[u8]) -> Option<(usize, &Element)>
         ensures found { MatchOption result (spec.found self.now name.now ≡ None) (λ found. spec.found self.now name.now ≡ Some (found.0, found.1.now)) }
         ensures there { IfSome result (λ found. slice_get self.now.plant.elements found.0 ≡ Some found.1.now) }
@@ -91,7 +91,7 @@ impl RunningConfig {
         }
     }
 
-    /// The class of the element of a name.
+    /// Returns the class of the element with that flat name.
     #[tactic(auto, using(crate::proofs::OfCalls::Listings::class_found))]
     fn class_named(&self, name: &[u8]) -> Option<Class>
         ensures { result ≡ spec.class_named (spec.listing_of self.now) name.now }
@@ -102,7 +102,7 @@ impl RunningConfig {
         }
     }
 
-    /// Whether a handler can be asked one way.
+    /// Checks whether a handler can be read or written.
     pub(crate) fn check(&self, way: Direction, name: &[u8]) -> Check
         ensures { result ≡ spec.check (spec.listing_of self.now) way name.now }
     {
@@ -112,7 +112,7 @@ impl RunningConfig {
         }
     }
 
-    /// What a handler of the router itself answers.
+    /// Returns the value of a global handler.
     #[tactic(auto, unfolding(crate::specs::Globals::global_value))]
     fn global_value(&self, alloc: Global, handler: GlobalHandler) -> Result<Vec<u8>, AllocError>
         ensures { IfOk result (λ value. global_value self.now (name_of handler) ≡ Some value.items) }
@@ -127,7 +127,7 @@ impl RunningConfig {
         }
     }
 
-    /// Reads a handler of the router itself.
+    /// Reads a global handler.
     pub(crate) fn read_global(&self, alloc: Global, name: &[u8]) -> Result<StoredReply, StepFault>
         ensures { IfOk result (λ reply. reply ≡ read_global name.now (global_value self.now name.now)) }
     {
@@ -140,7 +140,7 @@ impl RunningConfig {
         }
     }
 
-    /// A packet enters from a device.
+    /// Enters a packet of a device.
     pub(crate) fn enter(&mut self, device: &[u8], packet: &Packet) -> Reply
         ensures { entered self.old device.now (packet.now ∷ []) ≡ (self.new, result) }
     {
@@ -151,7 +151,7 @@ impl RunningConfig {
         }
     }
 
-    /// A packet at rest enters from a device.
+    /// Enters a stored packet of a device.
     pub(crate) fn arrive(&mut self, device: &[u8], packet: &StoredPacket) -> StoredReply
         ensures { entered self.old device.now (packet.now ∷ []) ≡ (self.new, result) }
     {
@@ -164,7 +164,7 @@ impl RunningConfig {
         }
     }
 
-    /// Packets enter from a device one after another.
+    /// Enters packets of a device, one after another.
     pub(crate) fn poll(&mut self, device: &[u8], taken: &[StoredPacket]) -> StoredReply
         ensures { entered self.old device.now taken.now ≡ (self.new, result) }
     {
@@ -175,14 +175,14 @@ impl RunningConfig {
         StoredReply::of(CompactReply::Entered(taken.len() as u64))
     }
 
-    /// Each task runs once. How many packets they gave or pulled.
+    /// Runs each task once. Returns the number of packets that the tasks emitted or pulled.
     pub(crate) fn round(&mut self) -> u64
         ensures { worked self.old ≡ (self.new, Reply.Worked result) }
     {
         self.plant.round()
     }
 
-    /// A device takes a packet, which stays as it came.
+    /// Takes a packet for a device. The reply holds the whole packet.
     pub(crate) fn transmit(&mut self, device: &[u8]) -> Reply
         ensures { sent self.old device.now ≡ (self.new, result) }
     {
@@ -192,7 +192,7 @@ impl RunningConfig {
         Reply::Sent(self.plant.pull(device))
     }
 
-    /// A device takes a packet, which is kept in this room.
+    /// Takes a packet for a device, and stores it in the given room.
     pub(crate) fn transmit_stored(&mut self, device: &[u8], room: PacketRoom) -> StoredReply
         ensures { sent self.old device.now ≡ (self.new, result) }
     {
@@ -205,7 +205,7 @@ impl RunningConfig {
         }
     }
 
-    /// What was prepared takes the place of what runs. It takes no memory.
+    /// Installs a prepared configuration. Allocates nothing.
     pub(crate) fn install(&mut self, prepared: Prepared)
         ensures { self.new ≡ taken prepared self.old }
     {
@@ -215,7 +215,10 @@ impl RunningConfig {
         *self = next;
     }
 
-    /// The configuration of a text takes the place of this one, or is refused. All its memory is taken before the running plant is touched; where memory runs out nothing has changed.
+    /// Installs the configuration of a text, or refuses it.
+    ///
+    /// Allocates everything before it touches the running plant, so a swap that fails with out of
+    /// memory changes nothing.
     pub(crate) fn swap(&mut self, alloc: Global, text: &[u8]) -> Result<StoredReply, StepFault>
         ensures swaps { MatchResult result (λ reply. Swaps self.old text.now self.new reply) (λ _. self.new ≡ self.old) }
         ensures light { IfOk result (λ reply. holds_memory reply ≡ true → self.new ≡ self.old) }

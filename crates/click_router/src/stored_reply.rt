@@ -1,4 +1,4 @@
-//! A reply as a history keeps it.
+//! Replies in the form that a history stores.
 
 ghost use Rattle.std.specs.Prelude.{◌≡◌, true, false, IfOk, IfErr, is_some};
 ghost use Rattle.click_router.specs.One.{refusal_holds, holds_memory, sends_packet};
@@ -12,7 +12,8 @@ use click_packet::{Packet, PacketRoom, StoredPacket};
 use std::alloc::{AllocError, Global};
 use std::marker::Model;
 
-/// What is kept of a reply: of a packet that was sent its bytes alone, without the room that a packet in flight has.
+/// The content of a stored reply. Of a packet that was sent it has only the bytes and annotations,
+/// without the room that a packet in flight has.
 #[derive(Drop)]
 pub enum CompactReply {
     Value(Sequence<u8>),
@@ -21,7 +22,7 @@ pub enum CompactReply {
     NoHandler,
     WrongWay,
     Handler(HandlerFault),
-    // In a box, since it is large and rare.
+    // perf: boxed, because it is large and rare.
     Config(Box<ConfigFault>),
     Entered(u64),
     Worked(u64),
@@ -30,7 +31,9 @@ pub enum CompactReply {
     NoDevice,
 }
 
-/// A reply in a history. It is small, where a `Reply` has a packet's room. Contracts see it as the reply.
+/// A reply in a history. To a contract it is a `Reply`.
+///
+/// perf: it is small, and a `Reply` has room for a packet.
 #[derive(Drop)]
 pub struct StoredReply {
     compact: CompactReply,
@@ -45,7 +48,10 @@ impl Model for StoredReply {
     ghost view = { λ r. reply_of r.compact };
 }
 
-/// The packet in flight. It is apart, since each place for a packet is cleared, and other replies need none.
+/// Returns the stored packet as a packet in flight.
+///
+/// perf: out of line. Room for a packet is cleared wherever it is declared, and other replies need
+/// none.
 #[cold]
 #[inline(never)]
 fn packet_of(stored: &StoredPacket) -> Packet
@@ -56,7 +62,7 @@ fn packet_of(stored: &StoredPacket) -> Packet
     packet
 }
 
-/// The reply of what is kept, where no packet is sent.
+/// Returns the reply of a stored one that holds no packet.
 #[inline(always)]
 fn small_reply(compact: CompactReply) -> Reply
     requires { sends_packet (reply_of compact) ≡ false }
@@ -79,14 +85,14 @@ fn small_reply(compact: CompactReply) -> Reply
 }
 
 impl StoredReply {
-    /// Of what is kept.
+    /// Wraps the content of a stored reply.
     pub fn of(compact: CompactReply) -> StoredReply
         ensures { result ≡ reply_of compact }
     {
         StoredReply { compact }
     }
 
-    /// Of a Round, in which the tasks gave or pulled this many packets.
+    /// Returns the reply to a Round in which the tasks emitted or pulled this many packets.
     pub fn worked(count: u64) -> StoredReply
         ensures { result ≡ Reply.Worked count }
     {
@@ -95,7 +101,7 @@ impl StoredReply {
         }
     }
 
-    /// Of a call that is refused, but not for a configuration.
+    /// Returns the reply to a refused call, except a swap that was refused for its configuration.
     pub(crate) fn refused(why: Refusal) -> StoredReply
         requires { refusal_holds why ≡ false }
         ensures { result ≡ Reply.Refused why }
@@ -110,7 +116,7 @@ impl StoredReply {
         StoredReply { compact }
     }
 
-    /// Of a swap that is refused.
+    /// Returns the reply to a swap that was refused for a fault of its configuration.
     pub fn faulty(alloc: Global, fault: ConfigFault) -> Result<StoredReply, AllocError>
         ensures { IfOk result (λ r. r ≡ Reply.Refused (Refusal.Config fault)) }
     {
@@ -119,7 +125,8 @@ impl StoredReply {
         })
     }
 
-    /// An equal one. Where a packet was sent, there must be room for it already; only a value and a refusal take memory.
+    /// Returns an equal reply. Only a value or a fault of a configuration allocates. A packet that
+    /// was sent needs `room`.
     pub fn copy(&self, alloc: Global, room: Option<PacketRoom>) -> Result<StoredReply, AllocError>
         requires { sends_packet self.now ≡ true → is_some room ≡ true }
         ensures copy { IfOk result (λ copy. copy ≡ self.now) }
@@ -150,7 +157,7 @@ impl StoredReply {
         Ok(StoredReply { compact })
     }
 
-    /// The reply.
+    /// Converts into a `Reply`.
     #[inline(always)]
     pub fn into_reply(self) -> Reply
         ensures { result ≡ self }
@@ -162,7 +169,7 @@ impl StoredReply {
         }
     }
 
-    /// The reply, which sends no packet.
+    /// Converts into a `Reply`, if it holds no packet.
     #[inline(always)]
     pub(crate) fn into_small_reply(self) -> Reply
         requires { sends_packet self ≡ false }
@@ -172,7 +179,7 @@ impl StoredReply {
         small_reply(compact)
     }
 
-    /// What is kept of the reply.
+    /// Returns the content of the stored reply.
     pub fn compact(&self) -> &CompactReply
         ensures { reply_of result.now ≡ self.now }
     {

@@ -1,5 +1,6 @@
--- Bodies and their scopes: bodies stand in one another (`NestedBodies`, `BodyBraces`), each in one place (`OneBodyPlace`) and in some scope
--- (`BodyScopes`), before the elements that mean it (`EarlierBodies`); and the walk over the scopes (`ScopeWalk`).
+-- Bodies and their scopes: bodies are nested (`NestedBodies`, `BodyBraces`), each in one place
+-- (`OneBodyPlace`) and in some scope (`BodyScopes`). An element means a body with a lower index
+-- than its scope (`EarlierBodies`). The walk over the scopes is in `ScopeWalk`.
 pub mod BodyBraces
 pub mod BodyScopes
 pub mod EarlierBodies

@@ -1,5 +1,5 @@
--- The connections of a scope (`ConnectionPairs`, `AllScopes`), whose ports their ends are (`EndOwners`), and the ports of bodies (`UsedPorts`,
--- `BodyPortCounts`).
+-- The connections of a scope (`ConnectionPairs`, `AllScopes`), the owners of their ends
+-- (`EndOwners`), and the ports of bodies (`UsedPorts`, `BodyPortCounts`).
 pub mod AllScopes
 pub mod BodyPortCounts
 pub mod ConnectionPairs

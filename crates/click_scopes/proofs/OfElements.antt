@@ -1,5 +1,6 @@
--- The elements of a scope: those of its statements (`StatementElements`, `WrittenElements`), their names (`DeclaredNames`), the names and strings of those that are kept
--- (`ElementTables`), and the bodies that they stand for (`ElementBodies`).
+-- The elements of a scope: those of its statements (`StatementElements`, `WrittenElements`), and
+-- their names (`DeclaredNames`). Also the names and configuration strings of the stored elements
+-- (`ElementTables`), and the bodies that they mean (`ElementBodies`).
 pub mod DeclaredNames
 pub mod ElementBodies
 pub mod ElementTables

@@ -1,5 +1,6 @@
--- Wrong uses: those of names and classes (`ScopeNameFaults`, `PlaceNameFaults`, `FirstNameFault`), those of compounds (`PlaceCompoundFaults`), that
--- they are the configuration's (`WrongUses`), and the first of all (`LeastWrongUse`, `FirstWrongUse`).
+-- Misuses: those of names and classes (`ScopeNameFaults`, `PlaceNameFaults`, `FirstNameFault`) and
+-- those of compounds (`PlaceCompoundFaults`). They are those of the configuration (`WrongUses`),
+-- and the first one is found (`LeastWrongUse`, `FirstWrongUse`).
 pub mod FirstNameFault
 pub mod FirstWrongUse
 pub mod LeastWrongUse

@@ -1,3 +1,3 @@
--- Names of classes: what they mean (`WordMeanings`), and those that mean another (`Synonyms`).
+-- Names of classes: what words mean (`WordMeanings`), and the synonyms (`Synonyms`).
 pub mod Synonyms
 pub mod WordMeanings

@@ -1,5 +1,6 @@
--- Which class a name means (Click manual, "Element classes"): a definition is visible from its end on, in its scope and the bodies inside it;
--- a later one hides an earlier one. The element classes of the router are visible everywhere, as if defined before the text.
+-- The class that a name means (Click manual, "Element classes"). A definition is visible from its
+-- end on, in its scope and in the bodies inside it. A later definition hides an earlier one. The
+-- element classes of the router are visible everywhere, as if they were defined before the text.
 use Rattle.std.specs.Prelude.{ℕ, List, [], ◌∷◌, Option, Some, option_map, if◌then◌else◌}
 use Rattle.std.specs.Str.{bytes_eq}
 use Rattle.click_base.specs.Classes.{class_of}
@@ -10,7 +11,7 @@ use Rattle.click_text.specs.declared.syntax.Statement.{Statement}
 use Rattle.click_text.specs.declared.syntax.Statement.TheVariants as statement
 use Rattle.click_text.specs.Spans.{bytes_at}
 
--- what a class is: one of the router's, or the body at that place
+-- the meaning of a class: one of the router's classes, or the body with this index
 pub data Meaning : Type 0 where
   primitive : Class → Meaning
   compound : ℕ → Meaning
@@ -18,7 +19,7 @@ pub data Meaning : Type 0 where
 abbrev pub primitive_of : List ℕ → Option Meaning
 primitive_of w = option_map primitive (class_of w)
 
--- what a word means after these statements, the last first
+-- the meaning of a word after these statements, of which the last comes first
 unfoldable pub meaning : List ℕ → List Statement → List ℕ → Option Meaning
 meaning text [] w = primitive_of w
 meaning text (statement.Definition n b ∷ older) w = if bytes_eq (bytes_at text n) w then Some (compound b) else meaning text older w

@@ -13,7 +13,8 @@ use Rattle.click_text.specs.Spans.{bytes_at, string_text}
 use Rattle.click_scopes.specs.Scopes.{statement_elements}
 use Rattle.click_scopes.specs.Classes.{Meaning, class_meaning}
 
--- an element as it is written, and the statements that its classes are looked up in, the last first
+-- a written element, and the statements that are visible to its class, of which the last comes
+-- first
 pub record Placed : Type 0 where
   pub visible : List Statement
   pub element : Element
@@ -21,12 +22,13 @@ pub record Placed : Type 0 where
 abbrev pub place : List Statement → Element → Placed
 place visible e = record { visible = visible; element = e }
 
--- the elements of statements after those that are visible before them, in the order of the text
+-- the written elements of statements, in the order of the text; `visible` are the statements before
+-- them
 abbrev pub placed : List Statement → List Statement → List Placed
 placed visible [] = []
 placed visible (s ∷ ss) = map (place visible) (statement_elements s) ++ placed (s ∷ visible) ss
 
--- the name that an element is declared under
+-- the name under which an element is declared
 abbrev pub head_name : List ℕ → Head → Option (List ℕ)
 head_name text (head.Word s) = None
 head_name text (head.Declared s c) = Some (bytes_at text s)
@@ -47,16 +49,18 @@ output_name = codes "output"
 abbrev pub is_port_name : List ℕ → Bool
 is_port_name w = bytes_eq w input_name || bytes_eq w output_name
 
--- what an element as written stands for
+-- the role of a written element
 pub data Role : Type 0 where
-  -- one of a body's own ports
+  -- one of the body's own ports
   pseudo : Role
   -- an element that is declared in the scope
   refers : Role
-  -- an element of its own
+  -- a new element
   makes : Role
 
--- A bare word: in a body `input` and `output` are its ports; else it means the element that the scope declares, wherever that stands; else it makes one of a class.
+-- The role of a bare word. In a body, `input` and `output` are its own ports. Any other word means
+-- the element that the scope declares under it, before or after, or else it makes an element of
+-- that class.
 abbrev pub word_role : Bool → List (List ℕ) → List ℕ → Role
 word_role in_body declared w =
     if in_body && is_port_name w then pseudo else if has_name w declared then refers else makes
@@ -70,11 +74,12 @@ role_of_head text in_body declared (head.Compound b) string = makes
 abbrev pub role : List ℕ → Bool → List (List ℕ) → Element → Role
 role text in_body declared e = role_of_head text in_body declared e.head e.text
 
--- a class used as an element makes one called after its class and its number, which counts from 1
+-- the name of an element that is written as a class: the class, `@`, and the number of the element
+-- in its scope, from 1
 abbrev pub name_with_number : List ℕ → ℕ → List ℕ
 name_with_number class before = class ++ codes "@" ++ decimal (before + 1)
 
--- the local name of an element before which so many stand in the scope
+-- the local name of an element that follows n others in its scope
 abbrev pub made_name : List ℕ → ℕ → Head → List ℕ
 made_name text n (head.Word s) = name_with_number (bytes_at text s) n
 made_name text n (head.Declared s c) = bytes_at text s
@@ -85,7 +90,7 @@ word_of text (head.Word s) = bytes_at text s
 word_of text (head.Declared s c) = bytes_at text s
 word_of text (head.Compound b) = []
 
--- the local name that an element as written goes by
+-- the local name of the element that a written element stands for
 abbrev pub name_by : List ℕ → ℕ → Head → Role → List ℕ
 name_by text n h pseudo = word_of text h
 name_by text n h refers = word_of text h
@@ -96,7 +101,7 @@ count_with makes n = n + 1
 count_with refers n = n
 count_with pseudo n = n
 
--- the class of an element that makes one
+-- the class of a new element
 abbrev pub head_class : Head → ClassReference
 head_class (head.Word s) = class.Named s
 head_class (head.Declared s c) = c
@@ -105,7 +110,8 @@ head_class (head.Compound b) = class.Body b
 abbrev pub element_meaning : List ℕ → Placed → Option Meaning
 element_meaning text p = class_meaning text p.visible (head_class p.element.head)
 
--- An element of a scope: its local name, its class, its configuration string as written, and what it begins with.
+-- An element of a scope: its local name, its class, its configuration string as written, and its
+-- head.
 pub record ScopeElement : Type 0 where
   pub name : List ℕ
   pub meaning : Option Meaning
@@ -129,7 +135,7 @@ scope_element_by makes l ls = l ∷ ls
 scope_element_by refers l ls = ls
 scope_element_by pseudo l ls = ls
 
--- the elements that these make, where n stand before them
+-- the elements that these written elements make, after n others
 unfoldable pub scope_elements_from : List ℕ → Bool → List (List ℕ) → ℕ → List Placed → List ScopeElement
 scope_elements_from text in_body declared n [] = []
 scope_elements_from text in_body declared n (p ∷ ps) =

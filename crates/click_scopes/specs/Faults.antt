@@ -1,4 +1,5 @@
--- Wrong uses of names, classes, parameters and ports, in any scope of a configuration: also in classes that are never used.
+-- Misuses of names, classes, parameters and ports, in any scope of a configuration, also in a class
+-- that is never used.
 use Rattle.std.specs.Prelude.{◌≡◌, ◌≢◌, ◌⊎◌, ℕ, ◌+◌, ◌<◌, ◌≤◌, max, List, [], ◌∷◌, ◌++◌, reverse, length, map, slice_get, Contains, Bool, true, false, Option, Some, None, if◌then◌else◌}
 use Rattle.std.specs.Str.{bytes_eq}
 use Rattle.click_text.specs.declared.syntax.Span.{Span}
@@ -20,21 +21,21 @@ use Rattle.click_scopes.specs.Elements.{Placed, place, placed, head_name, declar
 use Rattle.click_scopes.specs.declared.fault.WrongUse.{WrongUse}
 use Rattle.click_scopes.specs.declared.fault.WrongUse.TheVariants as kind
 
--- the scope's elements as written, after the statements that are visible before them
+-- the written elements of a scope, after the statements that are visible before them
 abbrev pub scope_placed : Config → Scope → List Statement → List Placed
 scope_placed c s visible = placed visible (statements_of c s)
 
 abbrev pub scope_declared : Config → Scope → List Statement → List (List ℕ)
 scope_declared c s visible = declared_names c.text (scope_placed c s visible)
 
--- the elements of the scope
+-- the elements of a scope
 abbrev pub elements_of_scope : Config → Scope → List Statement → List ScopeElement
 elements_of_scope c s visible = scope_elements_from c.text (is_body s) (scope_declared c s visible) 0 (scope_placed c s visible)
 
 abbrev pub role_in : Config → Scope → List Statement → Placed → Role
 role_in c s visible p = role c.text (is_body s) (scope_declared c s visible) p.element
 
--- the open brace of a body
+-- the opening brace of a body
 abbrev pub brace_by : Option Body → Span
 brace_by None = span 0 0
 brace_by (Some b) = span b.span.start (b.span.start + 1)
@@ -48,7 +49,7 @@ first_token c (head.Word s) = s
 first_token c (head.Declared s d) = s
 first_token c (head.Compound b) = brace_of c b
 
--- A joined end of a connection as written: the name that it goes by, its role, its class and its first token.
+-- An end of a written connection: the name of its element, its role, its class and its first token.
 pub record End : Type 0 where
   pub name : List ℕ
   pub role : Role
@@ -65,7 +66,7 @@ declared_meaning text [] name = None
 declared_meaning text (p ∷ ps) name =
     if is_declared_as text name (head_name text p.element.head) then element_meaning text p else declared_meaning text ps name
 
--- what a scope says of the names in it
+-- the names of a scope, and its written elements
 pub record ScopeNames : Type 0 where
   pub in_body : Bool
   pub declared : List (List ℕ)
@@ -90,14 +91,14 @@ end_by c names n p r = record {
 abbrev pub written_end : Config → ScopeNames → ℕ → Placed → End
 written_end c names n p = end_by c names n p (role c.text names.in_body names.declared p.element)
 
--- a connection as written
+-- a written connection
 pub record WrittenConnection : Type 0 where
   pub from : End
   pub out_port : ℕ
   pub to : End
   pub in_port : ℕ
 
--- a port that is not written is 0
+-- the number of a port, which is 0 if none is written
 abbrev pub port_number : Option WrittenPort → ℕ
 port_number None = 0
 port_number (Some p) = p.number
@@ -105,7 +106,7 @@ port_number (Some p) = p.number
 abbrev pub written_connection : End → Link → End → WrittenConnection
 written_connection a l b = record { from = a; out_port = port_number l.from; to = b; in_port = port_number l.to }
 
--- how many elements stand after one as written
+-- the number of elements up to this written element
 abbrev pub number_behind : Config → ScopeNames → ℕ → Placed → ℕ
 number_behind c names n p = count_with (role c.text names.in_body names.declared p.element) n
 
@@ -130,11 +131,12 @@ written_connections_from c names visible n (st ∷ ss) =
     statement_connections c names visible n st
     ++ written_connections_from c names (st ∷ visible) (number_after_all c names n (map (place visible) (statement_elements st))) ss
 
--- the connections of a scope as written
+-- the written connections of a scope
 abbrev pub scope_connections : Config → Scope → List Statement → List WrittenConnection
 scope_connections c s visible = written_connections_from c (scope_names c s visible) visible 0 (statements_of c s)
 
--- the ports of `input` that stand as sources, and those of `output` that stand as targets
+-- the output ports of `input` that are used as sources, and the input ports of `output` that are
+-- used as targets
 abbrev pub is_pseudo : List ℕ → End → Bool
 is_pseudo w e = elim e.role [ pseudo ↦ bytes_eq e.name w | refers ↦ false | makes ↦ false ]
 
@@ -146,25 +148,27 @@ abbrev pub output_ports : List WrittenConnection → List ℕ
 output_ports [] = []
 output_ports (j ∷ js) = if is_pseudo output_name j.to then j.in_port ∷ output_ports js else output_ports js
 
--- a body has as many ports as the highest one in use says
+-- the number of ports, up to the highest one in use
 abbrev pub port_count : List ℕ → ℕ
 port_count [] = 0
 port_count (p ∷ ps) = max (p + 1) (port_count ps)
 
--- The roles and names of a body's ends do not depend on what is visible before it.
+-- The ports of a body that its connections use. They do not depend on what is visible before the
+-- body.
 abbrev pub inputs_of : Config → ℕ → List ℕ
 inputs_of c b = input_ports (scope_connections c (inside b) [])
 
 abbrev pub outputs_of : Config → ℕ → List ℕ
 outputs_of c b = output_ports (scope_connections c (inside b) [])
 
--- A wrong use, of that kind, at the token of that span.
+-- `IsWrong c kind span`: the token with this span misuses a name, class, parameter or port in this
+-- way.
 pub data IsWrong (c : Config) : WrongUse → Span → Type 0 where
-  -- a bare word that names no element and no class
+  -- a bare word that names neither an element nor a class
   unknown_name : (s : Scope) (visible : List Statement) (enclosing : List Scope) (front back : List Placed) (p : Placed) (w : Span) → Stands c s visible enclosing →
       scope_placed c s visible ≡ front ++ p ∷ back → role_in c s visible p ≡ makes → p.element.head ≡ head.Word w → p.element.text ≡ None →
       element_meaning c.text p ≡ None → IsWrong c kind.UnknownName w
-  -- a word that stands for a class and names none
+  -- a word in the position of a class that names no class
   unknown_class : (s : Scope) (visible : List Statement) (enclosing : List Scope) (front back : List Placed) (p : Placed) (w string : Span) → Stands c s visible enclosing →
       scope_placed c s visible ≡ front ++ p ∷ back → p.element.head ≡ head.Word w → p.element.text ≡ Some string →
       element_meaning c.text p ≡ None → IsWrong c kind.UnknownClass w
@@ -174,7 +178,8 @@ pub data IsWrong (c : Config) : WrongUse → Span → Type 0 where
   unknown_original : (s : Scope) (visible : List Statement) (enclosing : List Scope) (before after : List Statement) (n w : Span) → Stands c s visible enclosing →
       statements_of c s ≡ before ++ statement.Synonym n w ∷ after → meaning c.text (reverse before ++ visible) (bytes_at c.text w) ≡ None →
       IsWrong c kind.UnknownClass w
-  -- an element whose name an earlier one of its scope has; that of an unknown class used as an element is not known
+  -- an element with the name of an earlier element of its scope; the name of an element that is
+  -- written as an unknown class does not count
   named_twice : (s : Scope) (visible : List Statement) (enclosing : List Scope) (front back : List Placed) (p : Placed) → Stands c s visible enclosing →
       scope_placed c s visible ≡ front ++ p ∷ back → role_in c s visible p ≡ makes →
       ((n : Span) × (d : _) × (p.element.head ≡ head.Declared n d)) ⊎ (element_meaning c.text p ≢ None) →
@@ -185,15 +190,15 @@ pub data IsWrong (c : Config) : WrongUse → Span → Type 0 where
   port_declared : (b : ℕ) (visible : List Statement) (enclosing : List Scope) (front back : List Placed) (p : Placed) (n : Span) (d : _) → Stands c (inside b) visible enclosing →
       scope_placed c (inside b) visible ≡ front ++ p ∷ back → p.element.head ≡ head.Declared n d → is_port_name (bytes_at c.text n) ≡ true →
       IsWrong c kind.DeclaredTwice n
-  -- two parameters of one name
+  -- two parameters with the same name
   formal_twice : (b : ℕ) (visible : List Statement) (enclosing : List Scope) (front back : List Span) (f : Span) → Stands c (inside b) visible enclosing →
       formals_of c (inside b) ≡ front ++ f ∷ back → has_name (bytes_at c.text f) (map (bytes_at c.text) front) ≡ true → IsWrong c kind.DeclaredTwice f
-  -- a compound's element with more or fewer arguments than it has parameters
+  -- an element of a compound with more or fewer arguments than the compound has parameters
   wrong_parameters : (s : Scope) (visible : List Statement) (enclosing : List Scope) (front back : List Placed) (p : Placed) (b : ℕ) (arguments : List Span) → Stands c s visible enclosing →
       scope_placed c s visible ≡ front ++ p ∷ back → role_in c s visible p ≡ makes → element_meaning c.text p ≡ Some (compound b) →
       AreArguments (string_or_empty c.text p.element.text) arguments → length arguments ≢ length (formals_of c (inside b)) →
       IsWrong c kind.WrongParameters (first_token c p.element.head)
-  -- a port that the element's compound lacks; `output` as a source, and `input` as a target
+  -- a port that the compound does not have; `output` as a source, or `input` as a target
   no_output : (s : Scope) (visible : List Statement) (enclosing : List Scope) (j : WrittenConnection) (b : ℕ) → Stands c s visible enclosing → Contains (scope_connections c s visible) j →
       j.from.role ≢ pseudo → j.from.meaning ≡ Some (compound b) → port_count (outputs_of c b) ≤ j.out_port → IsWrong c kind.CompoundPort j.from.first
   no_input : (s : Scope) (visible : List Statement) (enclosing : List Scope) (j : WrittenConnection) (b : ℕ) → Stands c s visible enclosing → Contains (scope_connections c s visible) j →
@@ -202,7 +207,7 @@ pub data IsWrong (c : Config) : WrongUse → Span → Type 0 where
       is_pseudo output_name j.from ≡ true → IsWrong c kind.CompoundPort j.from.first
   input_as_target : (s : Scope) (visible : List Statement) (enclosing : List Scope) (j : WrittenConnection) → Stands c s visible enclosing → Contains (scope_connections c s visible) j →
       is_pseudo input_name j.to ≡ true → IsWrong c kind.CompoundPort j.to.first
-  -- a port of a body below its highest one that is not in use
+  -- an unused port of a body below its highest one
   input_gap : (b : ℕ) (visible : List Statement) (enclosing : List Scope) (p : ℕ) → Stands c (inside b) visible enclosing →
       p < port_count (inputs_of c b) → (Contains (inputs_of c b) p → ⊥) → IsWrong c kind.CompoundPort (brace_of c b)
   output_gap : (b : ℕ) (visible : List Statement) (enclosing : List Scope) (p : ℕ) → Stands c (inside b) visible enclosing →
@@ -215,7 +220,7 @@ fault_number kind.UnknownClass = 13
 fault_number kind.WrongParameters = 14
 fault_number kind.CompoundPort = 15
 
--- the wrong use whose place is first; of two at one place, that of the lower number
+-- the misuse that comes first in the text; of two at one offset, the one with the lower number
 pub record IsFirstWrong (c : Config) (k : WrongUse) (s : Span) : Type 0 where
   pub wrong : IsWrong c k s
   pub first : (j : WrongUse) (t : Span) → IsWrong c j t → (s.start < t.start) ⊎ ((s.start ≡ t.start) × (fault_number k ≤ fault_number j))

@@ -13,7 +13,7 @@ use Rattle.click_text.specs.declared.syntax.Body.{Body}
 use Rattle.click_text.specs.declared.syntax.Config.{Config}
 use Rattle.click_text.specs.Grammar.{element}
 
--- the whole text, or the body at that place
+-- the whole text, or the body with this index
 pub data Scope : Type 0 where
   whole : Scope
   inside : ℕ → Scope
@@ -38,7 +38,7 @@ abbrev pub formals_of : Config → Scope → List Span
 formals_of c whole = []
 formals_of c (inside b) = body_formals (slice_get c.bodies b)
 
--- the elements of a statement as they are written; of several names with one class each is one
+-- the written elements of a statement; a declaration writes one for each of its names
 abbrev pub statement_elements : Statement → List Element
 statement_elements (statement.Chain c) = c.first ∷ map (λ l. l.element) c.links
 statement_elements (statement.Declaration d) = map (λ n. element (head.Declared n d.class) d.text) d.names
@@ -59,7 +59,7 @@ abbrev pub link_bodies : List Link → List ℕ
 link_bodies [] = []
 link_bodies (l ∷ ls) = head_bodies l.element.head ++ link_bodies ls
 
--- the bodies that stand in a statement, and in no body inside it
+-- the bodies in a statement that are in no body inside it
 abbrev pub bodies_in : Statement → List ℕ
 bodies_in (statement.Chain c) = head_bodies c.first.head ++ link_bodies c.links
 bodies_in (statement.Declaration d) = class_bodies d.class
@@ -67,7 +67,9 @@ bodies_in (statement.Definition n b) = b ∷ []
 bodies_in (statement.Synonym n c) = []
 bodies_in (statement.Requirement t) = []
 
--- After these statements, the last first, a scope begins: those before it in the scopes around it. `enclosing` are these scopes, the nearest first.
+-- `Stands c scope visible enclosing`: the scope occurs in the configuration, inside the scopes
+-- `enclosing`, of which the nearest comes first. `visible` are the statements before it in these
+-- scopes, of which the last comes first.
 pub data Stands (c : Config) : Scope → List Statement → List Scope → Type 0 where
   at_top : Stands c whole [] []
   nested : (s : Scope) (visible : List Statement) (enclosing : List Scope) (before after : List Statement) (st : Statement) (b : ℕ) →

@@ -1,4 +1,4 @@
-//! From a configuration to its scopes.
+//! The analysis of a configuration: its scopes, or the first misuse.
 
 ghost use Rattle.std.specs.Prelude.{IfOk, IfErr};
 ghost use Rattle.click_text.specs.Spelling.{Spells};
@@ -17,11 +17,11 @@ use crate::written_scopes::scopes_of;
 use click_text::syntax::Config;
 use std::alloc::{AllocError, Global};
 
-/// Why there is nothing to be found.
+/// The reason for which a configuration has no scopes.
 #[derive(Clone, Copy, Debug, PartialEq, Eq)]
 pub enum ScopeFault {
     NoMemory,
-    /// The first wrong use.
+    /// The first misuse of a name, class, parameter or port.
     Wrong(TokenFault),
 }
 
@@ -36,7 +36,7 @@ impl From<AllocError> for ScopeFault {
     }
 }
 
-/// The first wrong use of a name, class, parameter or port.
+/// Returns the first misuse of a name, class, parameter or port, if there is one.
 fn first_wrong(
     alloc: Global,
     config: &Config,
@@ -53,7 +53,9 @@ fn first_wrong(
     Ok(first_of(name_fault, compound_fault))
 }
 
-/// How long the text is. What begins in it begins before the last place that there is.
+/// Returns the length of the text.
+///
+/// proof: the contract states that every body begins at an offset below 2^64 - 1.
 fn text_len(config: &Config) -> usize
     requires { Spells config.now.text config.now }
     ensures { AreShort config.now.bodies }
@@ -61,8 +63,11 @@ fn text_len(config: &Config) -> usize
     config.text.len()
 }
 
-/// The scopes of a configuration that a text spells: the elements of each with their classes and arguments, and its connections as written (Click manual,
-/// "Compound elements"). Or, of wrong names, classes, parameters and ports, the one that stands first in the text.
+/// Returns the scopes of a configuration that a text spells, or its first misuse.
+///
+/// A scope has its elements, with their classes and arguments, and its connections as written
+/// (Click manual, "Compound elements"). The first misuse of a name, class, parameter or port is the
+/// one that comes first in the text. May fail with `NoMemory`.
 pub fn analyze(alloc: Global, config: &Config) -> Result<Scopes, ScopeFault>
     requires { Spells config.now.text config.now }
     ensures scopes { IfOk result (AreScopes config.now) }

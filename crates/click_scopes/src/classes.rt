@@ -1,4 +1,4 @@
-//! Which class a name means.
+//! The class that a name means.
 
 ghost use Rattle.std.specs.Prelude.{◌≡◌, ℕ, List, ◌++◌, ◌∷◌, [], OnOk};
 ghost use Rattle.click_text.specs.declared.syntax.Statement.{Statement as Stated};
@@ -10,26 +10,26 @@ use click_base::{Class, class_of};
 use click_text::syntax::{ClassReference, Span, Statement};
 use std::alloc::AllocError;
 
-/// What a class is.
+/// A class: one of the router's, or a compound.
 #[derive(Clone, Copy, Debug, PartialEq, Eq)]
 pub enum ResolvedClass {
-    /// One of the router's.
+    /// A class of the router.
     Primitive(Class),
-    /// The body at that place.
+    /// The compound whose body has this index.
     Compound(usize),
 }
 
-/// A definition of a class, and where the one before it stands that is visible with it.
+/// A definition of a class, and the index of the one that is visible before it.
 #[derive(Clone, Copy)]
 pub struct ClassEntry {
     pub name: Span,
     pub class: Option<ResolvedClass>,
     pub older: Option<usize>,
-    /// The word for its class, where the definition is a synonym.
+    /// The word for its class, if the definition is a synonym.
     pub original: Option<Span>,
 }
 
-/// What a word means where no definition has it.
+/// Returns the class that a word means if no definition has its name.
 fn primitive(word: &[u8]) -> Option<ResolvedClass>
     ensures { meaning_by result ≡ primitive_of word.now }
 {
@@ -39,7 +39,7 @@ fn primitive(word: &[u8]) -> Option<ResolvedClass>
     }
 }
 
-/// The definition at a place, where that is below a limit, with its place.
+/// Returns the definition at an index, with the index, if it is below the limit.
 fn entry_at(entries: &[ClassEntry], at: Option<usize>, limit: usize) -> Option<(usize, ClassEntry)>
     ensures { result ≡ entry_from entries.now at limit }
 {
@@ -49,7 +49,7 @@ fn entry_at(entries: &[ClassEntry], at: Option<usize>, limit: usize) -> Option<(
     }
 }
 
-/// What a word means where these definitions are visible, the last of them at `top`.
+/// Returns the class that a word means. The last definition that is visible has the index `top`.
 pub fn find(
     text: &[u8],
     entries: &[ClassEntry],
@@ -70,7 +70,9 @@ pub fn find(
     primitive(word.of(text))
 }
 
-/// What a class means there.
+/// Returns the class that a class reference means.
+///
+/// The last definition that is visible has the index `top`.
 pub fn class_at(
     text: &[u8],
     entries: &[ClassEntry],

@@ -1,4 +1,4 @@
-//! The arguments of compounds' elements.
+//! The arguments of the elements of compounds.
 
 ghost use Rattle.std.specs.Prelude.{◌≡◌, ℕ, Some, IfOk};
 ghost use Rattle.click_text.specs.Arguments.{AreArguments};
@@ -12,7 +12,8 @@ use click_text::arguments;
 use click_text::syntax::Span;
 use std::alloc::{AllocError, Global};
 
-/// What stands between the parentheses of a configuration string: nothing where none is written.
+/// Returns the text between the parentheses of a configuration string, or nothing if none is
+/// written.
 pub fn string_inside<'a>(text: &'a [u8], string: Option<Span>) -> &'a [u8]
     ensures { result.now ≡ string_or_empty text.now string }
 {
@@ -22,7 +23,9 @@ pub fn string_inside<'a>(text: &'a [u8], string: Option<Span>) -> &'a [u8]
     }
 }
 
-/// Where the arguments of a compound's element stand in its configuration string. Other elements have none.
+/// Returns the spans of the arguments of an element of a compound, in its configuration string.
+///
+/// Other elements have no such spans.
 pub(crate) fn arguments_of(
     alloc: Global,
     text: &[u8],

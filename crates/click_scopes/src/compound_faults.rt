@@ -1,4 +1,4 @@
-//! Wrong numbers of arguments and ports that a compound lacks: the first in the text.
+//! Wrong numbers of arguments, and ports that a compound does not have: the first one in the text.
 
 ghost use Rattle.std.specs.Prelude.{◌≡◌, length, slice_get, IfOk};
 ghost use Rattle.click_scopes.specs.Analysis.{AreScopes};
@@ -18,14 +18,14 @@ use crate::written_connections::{Owner, WrittenConnection};
 use click_text::syntax::{Body, Config, Head, Span};
 use std::alloc::{AllocError, Global};
 
-/// The compound that the element at a place is.
+/// Returns the body of the element at an index, if the element is a compound.
 fn compound_in(scope_elements: &[ScopeElement], place: usize) -> Option<usize>
     ensures { result ≡ scope_element_body (slice_get scope_elements.now place) }
 {
     scope_elements.get(place)?.body()
 }
 
-/// How many parameters a body has.
+/// Returns the number of parameters of a body.
 fn formals_count(bodies: &[Body], body: usize) -> usize
     ensures { result ≡ length (body_formals (slice_get bodies.now body)) }
 {
@@ -35,7 +35,7 @@ fn formals_count(bodies: &[Body], body: usize) -> usize
     }
 }
 
-/// An element with more or fewer arguments than its compound has parameters.
+/// Returns the misuse of an element with a wrong number of arguments for its compound.
 fn wrong_call(bodies: &[Body], scope_element: &ScopeElement) -> Option<TokenFault>
     requires { AreShort bodies.now }
     ensures { result ≡ call_fault_at bodies.now scope_element.now }
@@ -50,7 +50,7 @@ fn wrong_call(bodies: &[Body], scope_element: &ScopeElement) -> Option<TokenFaul
     }
 }
 
-/// The first element of a scope with a wrong number of arguments.
+/// Returns the first element of a scope with a wrong number of arguments.
 fn in_calls(bodies: &[Body], scope_elements: &[ScopeElement]) -> Option<TokenFault>
     requires { AreShort bodies.now }
     ensures { IsLeast (Among (IsWrongCall bodies.now scope_elements.now) (length scope_elements.now)) result }
@@ -62,7 +62,8 @@ fn in_calls(bodies: &[Body], scope_elements: &[ScopeElement]) -> Option<TokenFau
     first
 }
 
-/// A port that there is not.
+/// Returns the misuse of a port that does not exist. `count` is the number of ports, if it is
+/// known.
 fn lacking_port(count: Option<usize>, port: u8, first: Span) -> Option<TokenFault>
     ensures { result ≡ lacking count port first }
 {
@@ -72,7 +73,7 @@ fn lacking_port(count: Option<usize>, port: u8, first: Span) -> Option<TokenFaul
     }
 }
 
-/// What is wrong with a connection as written where it begins.
+/// Returns the misuse of the source of a written connection.
 fn wrong_source(
     scope_elements: &[ScopeElement],
     ports: &[Ports],
@@ -95,7 +96,7 @@ fn wrong_source(
     }
 }
 
-/// What is wrong with it where it ends.
+/// Returns the misuse of the target of a written connection.
 fn wrong_target(
     scope_elements: &[ScopeElement],
     ports: &[Ports],
@@ -118,7 +119,7 @@ fn wrong_target(
     }
 }
 
-/// The first wrong end of a connection of a scope.
+/// Returns the first misuse of an end of a scope's connections.
 fn in_written_connections(
     scope_elements: &[ScopeElement],
     ports: &[Ports],
@@ -135,7 +136,7 @@ fn in_written_connections(
     first
 }
 
-/// The first wrong use in the scope at a place.
+/// Returns the first misuse in the scope at an index.
 fn in_scope(bodies: &[Body], scopes: &Scopes, ports: &[Ports], place: usize) -> Option<TokenFault>
     requires { AreShort bodies.now }
     ensures { IsLeast (IsWrongIn bodies.now scopes.now.scopes.items ports.now place) result }
@@ -146,7 +147,7 @@ fn in_scope(bodies: &[Body], scopes: &Scopes, ports: &[Ports], place: usize) -> 
     first_of(call, written_connection)
 }
 
-/// A body with a port below its highest one that is not in use.
+/// Returns the misuse of a body with an unused port below its highest one.
 fn wrong_ports(bodies: &[Body], ports: &[Ports], place: usize) -> Option<TokenFault>
     requires { AreShort bodies.now }
     ensures { result ≡ spec.gap_at bodies.now ports.now place }
@@ -158,7 +159,7 @@ fn wrong_ports(bodies: &[Body], ports: &[Ports], place: usize) -> Option<TokenFa
     )
 }
 
-/// The first wrong use in any body.
+/// Returns the first misuse in any body.
 fn in_bodies(bodies: &[Body], scopes: &Scopes, ports: &[Ports]) -> Option<TokenFault>
     requires { AreShort bodies.now }
     ensures { IsLeast (Among (IsCompoundFaultOfBody bodies.now scopes.now.scopes.items ports.now) (length bodies.now)) result }
@@ -172,7 +173,9 @@ fn in_bodies(bodies: &[Body], scopes: &Scopes, ports: &[Ports]) -> Option<TokenF
     first
 }
 
-/// The first element with more or fewer arguments than parameters, or with a port that its compound lacks, in any scope.
+/// Returns the first misuse of a compound, in any scope.
+///
+/// It is an element with a wrong number of arguments, or a port that its compound does not have.
 pub fn first_compound_fault(
     alloc: Global,
     config: &Config,

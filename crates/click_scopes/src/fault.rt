@@ -1,26 +1,28 @@
-//! How names, classes, parameters and ports are used wrongly.
+//! The kinds of misuse of names, classes, parameters and ports.
 
 ghost use Rattle.std.specs.Prelude.{◌≡◌};
 ghost use Rattle.click_scopes.specs.FaultText.{kind_text};
 ghost use Rattle.click_scopes.specs.Faults.{fault_number};
 
-/// A kind of wrong use.
+/// A kind of misuse.
 #[derive(Clone, Copy, Debug, PartialEq, Eq)]
 pub enum WrongUse {
-    /// A bare word names no element and no class.
+    /// A bare word names neither an element nor a class.
     UnknownName,
-    /// A name has a second declaration in its scope.
+    /// A name is declared twice in its scope.
     DeclaredTwice,
-    /// A word stands for a class and names none.
+    /// A word in the position of a class names no class.
     UnknownClass,
-    /// A compound's element has more or fewer arguments than parameters.
+    /// An element of a compound has more or fewer arguments than the compound has parameters.
     WrongParameters,
-    /// A port that a compound lacks.
+    /// A compound does not have this port, or leaves a port below its highest one unused.
     CompoundPort,
 }
 
 impl WrongUse {
-    /// The number that operators see, by which of two at one place the first is told.
+    /// Returns the number that operators see.
+    ///
+    /// Of two misuses at one offset, the one with the lower number comes first.
     pub(crate) fn number(self) -> u8
         ensures { result ≡ fault_number self }
     {
@@ -33,7 +35,7 @@ impl WrongUse {
         }
     }
 
-    /// Its number and its name, as operators see them.
+    /// Returns the number and the name of the kind, as operators see them.
     pub fn text(self) -> &'static str
         ensures { result.now ≡ kind_text self }
     {

@@ -1,4 +1,4 @@
-//! Wrong uses of names, classes, parameters and ports: the first in the text.
+//! Misuses of names, classes, parameters and ports: the first one in the text.
 
 ghost use Rattle.std.specs.Prelude.{◌≡◌, length, IfOk};
 ghost use Rattle.click_scopes.specs.kept.FirstFault as spec;
@@ -11,14 +11,14 @@ use crate::scope_elements::{ScopeElement, is_port_name};
 use click_text::syntax::{Body, ClassReference, Head, Span};
 use std::alloc::{AllocError, Global};
 
-/// A wrong use.
+/// A misuse: its kind, and the span of the token.
 #[derive(Clone, Copy, Debug, PartialEq, Eq)]
 pub struct TokenFault {
     pub kind: WrongUse,
     pub span: Span,
 }
 
-/// One comes before another: by its place, then by its number.
+/// Returns whether `a` comes before `b`: by its offset, then by its number.
 fn comes_before(a: TokenFault, b: TokenFault) -> bool
     ensures { result ≡ spec.comes_before a b }
 {
@@ -29,7 +29,7 @@ fn comes_before(a: TokenFault, b: TokenFault) -> bool
     }
 }
 
-/// The first of two, where there are such.
+/// Returns the first of two misuses, if there is one.
 pub fn first_of(a: Option<TokenFault>, b: Option<TokenFault>) -> Option<TokenFault>
     ensures { result ≡ spec.first_of a b }
 {
@@ -40,7 +40,7 @@ pub fn first_of(a: Option<TokenFault>, b: Option<TokenFault>) -> Option<TokenFau
     }
 }
 
-/// A wrong use of that kind there, where the test says so.
+/// Returns this misuse if `test` is true.
 pub(crate) fn wrong_if(test: bool, kind: WrongUse, span: Span) -> Option<TokenFault>
     ensures { result ≡ spec.token_fault_if test kind span }
 {
@@ -51,7 +51,7 @@ pub(crate) fn wrong_if(test: bool, kind: WrongUse, span: Span) -> Option<TokenFa
     }
 }
 
-/// An element's word that names no class.
+/// Returns the misuse of an element's word that names no class.
 fn unknown(head: Head, text: Option<Span>, class: Option<ResolvedClass>) -> Option<TokenFault>
     ensures { result ≡ unknown_at head text class }
 {
@@ -67,7 +67,7 @@ fn unknown(head: Head, text: Option<Span>, class: Option<ResolvedClass>) -> Opti
     }
 }
 
-/// `input` or `output` declared in a body.
+/// Returns the misuse of an element that declares `input` or `output` in a body.
 fn port_declared(text: &[u8], in_body: bool, head: Head) -> Option<TokenFault>
     ensures { result ≡ port_at text.now in_body head }
 {
@@ -81,7 +81,9 @@ fn port_declared(text: &[u8], in_body: bool, head: Head) -> Option<TokenFault>
     }
 }
 
-/// An element whose name an earlier one has. That of an unknown class used as an element is not known.
+/// Returns the misuse of an element whose name is taken by an earlier one.
+///
+/// The name of an element that is written as an unknown class does not count.
 fn named_twice(
     taken: bool,
     head: Head,
@@ -97,7 +99,7 @@ fn named_twice(
     }
 }
 
-/// The first token of an element.
+/// Returns the first token of an element.
 pub fn first_token(bodies: &[Body], head: Head) -> Span
     requires { AreShort bodies.now }
     ensures { result ≡ first_in bodies.now head }
@@ -115,7 +117,9 @@ pub fn first_token(bodies: &[Body], head: Head) -> Span
     }
 }
 
-/// What is wrong with the name, the class or the declaration of an element whose name an earlier one has, or none.
+/// Returns the misuse of an element: of its name, its class or its declaration.
+///
+/// `taken` states whether an earlier element has its name.
 fn in_scope_element(
     text: &[u8],
     bodies: &[Body],
@@ -133,7 +137,7 @@ fn in_scope_element(
     first_of(first_of(unknown, twice), port)
 }
 
-/// The first wrong name, class or declaration of a scope's elements.
+/// Returns the first misuse of a name, class or declaration among a scope's elements.
 pub fn in_scope_elements(
     alloc: Global,
     text: &[u8],
@@ -156,7 +160,7 @@ pub fn in_scope_elements(
     Ok(first)
 }
 
-/// The first parameter of a body whose name an earlier one has.
+/// Returns the first parameter of a body that has the name of an earlier one.
 pub fn in_formals(
     alloc: Global,
     text: &[u8],

@@ -1,4 +1,4 @@
-//! Names that are lent, in their order, each once.
+//! Borrowed names in order, without repetition.
 
 ghost use Rattle.std.specs.Prelude.{◌≡◌, [], ◌∷◌, ◌++◌, IfOk, OnOk, OnErr, position, if◌then◌else◌};
 ghost use Rattle.std.specs.Str.{bytes_eq};
@@ -8,7 +8,7 @@ use indexmap::IndexSet;
 use std::alloc::{AllocError, Global};
 use std::marker::Model;
 
-/// Names in order, each once, that are lent and not copied.
+/// Names in order, without repetition, that are borrowed and not copied.
 #[derive(Drop)]
 pub(crate) struct LentNames<'a> {
     set: IndexSet<&'a [u8]>,
@@ -23,7 +23,7 @@ impl<'a> Model for LentNames<'a> {
 }
 
 impl<'a> LentNames<'a> {
-    /// No names, with room for so many.
+    /// Returns an empty list with room for `count` names, or fails with out of memory.
     pub(crate) fn with_room(alloc: Global, count: usize) -> Result<LentNames<'a>, AllocError>
         ensures { IfOk result (λ names. names ≡ []) }
     {
@@ -32,21 +32,23 @@ impl<'a> LentNames<'a> {
         })
     }
 
-    /// The name is among these.
+    /// Returns whether the name is in the list.
     pub(crate) fn has(&self, name: &[u8]) -> bool
         ensures { result ≡ has_name name.now self.now }
     {
         self.set.contains(name)
     }
 
-    /// Where the name stands.
+    /// Returns the index of the name, if it is in the list.
     pub(crate) fn place(&self, name: &[u8]) -> Option<usize>
         ensures { result ≡ position (bytes_eq name.now) self.now }
     {
         self.set.get_index_of(name)
     }
 
-    /// Adds the name at the end, if it is not there, and tells whether it was. An error leaves the names as they were.
+    /// Appends the name if it is new. Returns whether it was in the list.
+    ///
+    /// If it fails with out of memory, the list is unchanged.
     pub(crate) fn add(&mut self, name: &'a [u8]) -> Result<bool, AllocError>
         ensures taken { IfOk result (λ taken. taken ≡ has_name name.now self.old) }
         ensures added { OnOk result (self.new ≡ (if has_name name.now self.old then self.old else self.old ++ name.now ∷ [])) }

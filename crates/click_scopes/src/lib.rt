@@ -1,4 +1,5 @@
-//! What the scopes of a configuration declare and join, or the first wrong use of a name, class, parameter or port.
+//! The scopes of a configuration: what each declares and connects, or the first misuse of a name,
+//! class, parameter or port.
 #![tactic(auto)]
 
 mod analysis;

@@ -1,4 +1,5 @@
-//! Names, classes and parameters that are unknown or declared twice: the first in the text.
+//! Names and classes that are unknown, and names that are declared twice: the first one in the
+//! text.
 
 ghost use Rattle.std.specs.Prelude.{◌≡◌, length, slice_get, IfOk};
 ghost use Rattle.click_scopes.specs.Analysis.{AreScopes};
@@ -15,7 +16,7 @@ use crate::scopes::Scopes;
 use click_text::syntax::{Body, Config, Span};
 use std::alloc::{AllocError, Global};
 
-/// The word of a synonym that names no class.
+/// Returns the misuse of a synonym whose word names no class.
 fn unknown_original(entry: ClassEntry) -> Option<TokenFault>
     ensures { result ≡ original_at entry.original entry.class }
 {
@@ -28,7 +29,7 @@ fn unknown_original(entry: ClassEntry) -> Option<TokenFault>
     }
 }
 
-/// The first synonym of an unknown class.
+/// Returns the first synonym of an unknown class.
 fn in_entries(entries: &[ClassEntry]) -> Option<TokenFault>
     ensures { IsLeast (IsWrongEntry entries.now (length entries.now)) result }
 {
@@ -39,7 +40,7 @@ fn in_entries(entries: &[ClassEntry]) -> Option<TokenFault>
     first
 }
 
-/// The first wrong name, class or declaration of the elements of the scope at a place.
+/// Returns the first misuse of a name, class or declaration in the scope at an index.
 fn in_scope(
     alloc: Global,
     config: &Config,
@@ -55,7 +56,7 @@ fn in_scope(
     in_scope_elements(alloc, text, bodies, place < bodies.len(), elements)
 }
 
-/// The parameters of the body at a place.
+/// Returns the parameters of the body at an index.
 fn formals_at(bodies: &[Body], place: usize) -> &[Span]
     ensures { result.now ≡ body_formals (slice_get bodies.now place) }
 {
@@ -65,7 +66,9 @@ fn formals_at(bodies: &[Body], place: usize) -> &[Span]
     }
 }
 
-/// The first wrong name, class or declaration in the body at a place, its parameters among them.
+/// Returns the first misuse of a name, class or declaration in the body at an index.
+///
+/// Its parameters are included.
 fn in_body(
     alloc: Global,
     config: &Config,
@@ -82,7 +85,7 @@ fn in_body(
     Ok(first_of(elements, parameters))
 }
 
-/// The first wrong name, class or declaration in any body.
+/// Returns the first misuse of a name, class or declaration in any body.
 fn in_bodies(
     alloc: Global,
     config: &Config,
@@ -99,7 +102,8 @@ fn in_bodies(
     Ok(first)
 }
 
-/// The first unknown name or class, or the first second declaration of a name, in any scope.
+/// Returns the first unknown name or class, or the first repeated declaration of a name, in any
+/// scope.
 pub fn first_name_fault(
     alloc: Global,
     config: &Config,

@@ -1,4 +1,4 @@
-//! Names in their order, each once.
+//! Names in order, without repetition.
 
 ghost use Rattle.std.specs.Prelude.{◌≡◌, [], ◌∷◌, ◌++◌, IfOk, OnOk, OnErr, position, if◌then◌else◌};
 ghost use Rattle.std.specs.Str.{bytes_eq};
@@ -8,7 +8,7 @@ use indexmap::IndexSet;
 use std::alloc::{AllocError, Global};
 use std::marker::Model;
 
-/// Names in order, each once, by which a name's place is found.
+/// Names in order, without repetition, with an index for each name.
 #[derive(Drop)]
 pub struct Names {
     set: IndexSet<Vec<u8>>,
@@ -23,7 +23,7 @@ impl Model for Names {
 }
 
 impl Names {
-    /// No names.
+    /// Returns an empty list.
     pub fn new(alloc: Global) -> Names
         ensures { result ≡ [] }
     {
@@ -32,7 +32,7 @@ impl Names {
         }
     }
 
-    /// No names, with room for so many.
+    /// Returns an empty list with room for `count` names, or fails with out of memory.
     pub fn with_room(alloc: Global, count: usize) -> Result<Names, AllocError>
         ensures { IfOk result (λ names. names ≡ []) }
     {
@@ -41,21 +41,23 @@ impl Names {
         })
     }
 
-    /// The name is among these.
+    /// Returns whether the name is in the list.
     pub fn has(&self, name: &[u8]) -> bool
         ensures { result ≡ has_name name.now self.now }
     {
         self.set.contains(name)
     }
 
-    /// Where the name stands.
+    /// Returns the index of the name, if it is in the list.
     pub fn place(&self, name: &[u8]) -> Option<usize>
         ensures { result ≡ position (bytes_eq name.now) self.now }
     {
         self.set.get_index_of(name)
     }
 
-    /// Adds the name at the end, if it is not there, and tells whether it was. An error leaves the names as they were.
+    /// Appends the name if it is new. Returns whether it was in the list.
+    ///
+    /// If it fails with out of memory, the list is unchanged.
     pub fn add(&mut self, alloc: Global, name: &[u8]) -> Result<bool, AllocError>
         ensures taken { IfOk result (λ taken. taken ≡ has_name name.now self.old) }
         ensures added { OnOk result (self.new ≡ (if has_name name.now self.old then self.old else self.old ++ name.now ∷ [])) }

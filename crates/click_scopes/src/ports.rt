@@ -10,7 +10,7 @@ use crate::written_connections::{Owner, WrittenConnection};
 use click_text::syntax::Config;
 use std::alloc::{AllocError, Global};
 
-/// How many ports a body has, and that one below the highest is not in use.
+/// The numbers of ports of a body, and whether a port below the highest one is unused.
 #[derive(Clone, Copy)]
 pub struct Ports {
     pub inputs: usize,
@@ -18,7 +18,7 @@ pub struct Ports {
     pub gap: bool,
 }
 
-/// The ports of one side of a body that are in use: how many there are by the highest, and which.
+/// The ports in use on one side of a body: their number up to the highest one, and a flag for each.
 #[derive(Drop)]
 struct PortsInUse {
     count: usize,
@@ -27,7 +27,7 @@ struct PortsInUse {
 }
 
 impl PortsInUse {
-    /// No port is in use.
+    /// Returns the value without a port in use.
     fn none() -> PortsInUse
         ensures { IsUsed [] result.count result.ports }
     {
@@ -35,7 +35,7 @@ impl PortsInUse {
         PortsInUse { count: 0, ports }
     }
 
-    /// A further port is in use.
+    /// Records that a port is in use.
     fn add(&mut self, port: u8)
         ensures { (ports : List ℕ) → IsUsed ports self.old.count self.old.ports → IsUsed (ports ++ port ∷ []) self.new.count self.new.ports }
     {
@@ -46,7 +46,7 @@ impl PortsInUse {
         }
     }
 
-    /// One below the highest is not in use.
+    /// Returns whether a port below the highest one is unused.
     fn has_gap(&self) -> bool
         ensures { (ports : List ℕ) → IsUsed ports self.now.count self.now.ports → IsTrue result ↔ HasGap ports }
     {
@@ -59,7 +59,7 @@ impl PortsInUse {
     }
 }
 
-/// The inputs of a body that its connections name.
+/// Returns the input ports of a body that its connections use.
 fn inputs_used(written_connections: &[WrittenConnection]) -> PortsInUse
     ensures { IsUsed (inputs_kept written_connections.now) result.count result.ports }
 {
@@ -72,7 +72,7 @@ fn inputs_used(written_connections: &[WrittenConnection]) -> PortsInUse
     used
 }
 
-/// The outputs of a body that its connections name.
+/// Returns the output ports of a body that its connections use.
 fn outputs_used(written_connections: &[WrittenConnection]) -> PortsInUse
     ensures { IsUsed (outputs_kept written_connections.now) result.count result.ports }
 {
@@ -85,7 +85,7 @@ fn outputs_used(written_connections: &[WrittenConnection]) -> PortsInUse
     used
 }
 
-/// The ports of a body with these connections.
+/// Returns the ports of a body with these connections.
 fn ports_by(written_connections: &[WrittenConnection]) -> Ports
     ensures { IsPorts (inputs_kept written_connections.now) (outputs_kept written_connections.now) result }
 {
@@ -98,7 +98,7 @@ fn ports_by(written_connections: &[WrittenConnection]) -> Ports
     }
 }
 
-/// The ports of each body.
+/// Returns the ports of each body, or fails with out of memory.
 pub(crate) fn all_ports(
     alloc: Global,
     config: &Config,
@@ -115,7 +115,7 @@ pub(crate) fn all_ports(
     Ok(ports)
 }
 
-/// The ports of a body.
+/// Returns the ports of the body at an index.
 pub(crate) fn ports_at(ports: &[Ports], body: usize) -> Ports
     ensures { result ≡ ports_or (slice_get ports.now body) }
 {

@@ -17,14 +17,14 @@ use click_text::syntax::{ClassReference, Element, Head, Span};
 use itoa::Buffer;
 use std::alloc::{AllocError, Global};
 
-/// What an element as written stands for.
+/// The role of a written element.
 #[derive(Clone, Copy, Debug, PartialEq, Eq)]
 pub enum Role {
-    /// One of a body's own ports.
+    /// One of the body's own ports.
     Pseudo,
     /// An element that is declared in the scope.
     Refers,
-    /// An element of its own.
+    /// A new element.
     Makes,
 }
 
@@ -34,13 +34,13 @@ pub struct ScopeElement {
     pub name: Vec<u8>,
     pub class: Option<ResolvedClass>,
     pub text: Option<Span>,
-    /// Where the arguments of a compound stand in its configuration string. Others have none.
+    /// The spans of a compound's arguments in its configuration string. Other elements have none.
     pub arguments: Sequence<Span>,
     pub head: Head,
 }
 
 impl ScopeElement {
-    /// The body that it stands for.
+    /// Returns the body of the element, if it is a compound.
     pub fn body(&self) -> Option<usize>
         ensures { result ≡ class_body self.now.class }
     {
@@ -51,14 +51,14 @@ impl ScopeElement {
     }
 }
 
-/// The word is the name of a body's own ports.
+/// Returns whether the word is `input` or `output`, the names of a body's own ports.
 pub fn is_port_name(word: &[u8]) -> bool
     ensures { result ≡ spec.is_port_name word.now }
 {
     word == b"input".as_slice() || word == b"output".as_slice()
 }
 
-/// What a bare word stands for.
+/// Returns the role of a bare word.
 fn word_role(in_body: bool, declared: &LentNames, word: &[u8]) -> Role
     ensures { role_kept result ≡ spec.word_role in_body declared.now word.now }
 {
@@ -72,7 +72,7 @@ fn word_role(in_body: bool, declared: &LentNames, word: &[u8]) -> Role
     }
 }
 
-/// What an element as written stands for.
+/// Returns the role of a written element.
 pub(crate) fn role_of(text: &[u8], in_body: bool, declared: &LentNames, element: Element) -> Role
     ensures { role_kept result ≡ spec.role text.now in_body declared.now element }
 {
@@ -82,7 +82,7 @@ pub(crate) fn role_of(text: &[u8], in_body: bool, declared: &LentNames, element:
     }
 }
 
-/// The class, `@`, and the number of an element before which so many stand.
+/// Returns the class, `@`, and the number of an element that follows `before` others.
 fn numbered(alloc: Global, class: &[u8], before: usize) -> Result<Vec<u8>, AllocError>
     requires { before < usize.MAX }
     ensures { IfOk result (λ v. v.items ≡ spec.name_with_number class.now before) }
@@ -97,7 +97,7 @@ fn numbered(alloc: Global, class: &[u8], before: usize) -> Result<Vec<u8>, Alloc
     Ok(name)
 }
 
-/// The name of an element that one makes, before which so many stand.
+/// Returns the name of a new element that follows `before` others.
 fn made_name(alloc: Global, text: &[u8], before: usize, head: Head) -> Result<Vec<u8>, AllocError>
     requires { before < usize.MAX }
     ensures { IfOk result (λ v. v.items ≡ spec.made_name text.now before head) }
@@ -109,7 +109,7 @@ fn made_name(alloc: Global, text: &[u8], before: usize, head: Head) -> Result<Ve
     }
 }
 
-/// The class of an element that makes one.
+/// Returns the class of a new element.
 fn head_class(head: Head) -> ClassReference
     ensures { result ≡ spec.head_class head }
 {
@@ -120,7 +120,7 @@ fn head_class(head: Head) -> ClassReference
     }
 }
 
-/// The element that is made here, before which so many stand.
+/// Returns the element that a written element makes, after `before` others.
 fn made(
     alloc: Global,
     text: &[u8],
@@ -143,7 +143,7 @@ fn made(
     })
 }
 
-/// Adds an element at the end.
+/// Appends an element.
 fn push(
     scope_elements: &mut Vec<ScopeElement>,
     scope_element: ScopeElement,
@@ -154,7 +154,7 @@ fn push(
     Ok(())
 }
 
-/// The elements of a scope that declares these names.
+/// Returns the elements of a scope that declares these names.
 pub(crate) fn scope_elements_of(
     alloc: Global,
     text: &[u8],
@@ -177,7 +177,7 @@ pub(crate) fn scope_elements_of(
     Ok(scope_elements)
 }
 
-/// For each element as written, the number of elements before it.
+/// Returns for each written element the number of elements before it.
 pub(crate) fn numbers_of(
     alloc: Global,
     text: &[u8],

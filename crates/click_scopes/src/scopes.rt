@@ -1,4 +1,4 @@
-//! The scopes of a configuration: what each declares and joins.
+//! The scopes of a configuration: what each declares and connects.
 
 ghost use Rattle.std.specs.Prelude.{◌≡◌, ◌∷◌, ◌++◌, [], slice_get, IfOk, OnOk};
 ghost use Rattle.click_scopes.specs.kept.Nesting.{IsNested};
@@ -17,7 +17,9 @@ use click_base::sequence::Sequence;
 use click_text::syntax::{Config, Head, Span};
 use std::alloc::{AllocError, Global};
 
-/// A scope: its elements, its connections as written, and the place of the scope that it stands in. The whole text names itself.
+/// A scope: its elements, its written connections, and the index of the scope around it.
+///
+/// The whole text has its own index there.
 #[derive(Drop)]
 pub struct Scope {
     pub elements: Vec<ScopeElement>,
@@ -25,14 +27,14 @@ pub struct Scope {
     pub parent: usize,
 }
 
-/// The scopes of a configuration: each body at its own place, and the whole text after them.
+/// The scopes of a configuration: each body at its index, and after them the whole text.
 #[derive(Drop)]
 pub struct Scopes {
     pub scopes: Vec<Scope>,
 }
 
 impl Scopes {
-    /// The elements of the scope at a place.
+    /// Returns the elements of the scope at an index.
     pub fn elements_at(&self, scope: usize) -> &[ScopeElement]
         ensures { result.now ≡ spec.elements_by (slice_get self.now.scopes.items scope) }
     {
@@ -42,7 +44,7 @@ impl Scopes {
         }
     }
 
-    /// The connections of the scope at a place.
+    /// Returns the connections of the scope at an index.
     pub fn connections_at(&self, scope: usize) -> &[WrittenConnection]
         ensures { result.now ≡ spec.connections_by (slice_get self.now.scopes.items scope) }
     {
@@ -52,7 +54,7 @@ impl Scopes {
         }
     }
 
-    /// The place of the scope that a scope stands in.
+    /// Returns the index of the scope around a scope.
     pub fn parent_of(&self, scope: usize) -> usize
         ensures { result ≡ spec.parent_by (slice_get self.now.scopes.items scope) }
     {
@@ -62,14 +64,14 @@ impl Scopes {
         }
     }
 
-    /// The body that an element of a scope stands for.
+    /// Returns the body of an element of a scope, if the element is a compound.
     pub fn body_at(&self, scope: usize, element: usize) -> Option<usize>
         ensures { result ≡ spec.body_at self.now.scopes.items scope element }
     {
         self.scopes.get(scope)?.elements.get(element)?.body()
     }
 
-    /// The class of an element that is one of the router's: none for another.
+    /// Returns the class of an element of a scope, if it is one of the router's.
     pub fn class_at(&self, scope: usize, element: usize) -> Option<Class>
         ensures { result ≡ spec.class_found (slice_get self.now.scopes.items scope) element }
     {
@@ -79,7 +81,7 @@ impl Scopes {
         }
     }
 
-    /// The name of an element in its scope.
+    /// Returns the name of an element in its scope.
     pub fn name_at(&self, scope: usize, element: usize) -> &[u8]
         ensures { result.now ≡ spec.scope_name element (slice_get self.now.scopes.items scope) }
     {
@@ -92,7 +94,7 @@ impl Scopes {
         }
     }
 
-    /// What an element begins with.
+    /// Returns the head of an element of a scope, if there is such an element.
     pub fn head_at(&self, scope: usize, element: usize) -> Option<Head>
         ensures { result ≡ spec.scope_head element (slice_get self.now.scopes.items scope) }
     {
@@ -100,7 +102,7 @@ impl Scopes {
         Some(scope_element.head)
     }
 
-    /// What stands in the configuration string of an element.
+    /// Returns the text in the configuration string of an element.
     pub fn string_at<'a>(&self, text: &'a [u8], scope: usize, element: usize) -> &'a [u8]
         ensures { result.now ≡ spec.string_found text.now (slice_get self.now.scopes.items scope) element }
     {
@@ -113,7 +115,7 @@ impl Scopes {
         }
     }
 
-    /// Where the arguments of an element stand in its string.
+    /// Returns the spans of an element's arguments in its configuration string.
     pub fn arguments_at(&self, scope: usize, element: usize) -> &[Span]
         ensures { result.now ≡ spec.spans_found (slice_get self.now.scopes.items scope) element }
     {
@@ -127,7 +129,7 @@ impl Scopes {
     }
 }
 
-/// The scope that is written so.
+/// Returns the scope with these written elements.
 fn scope_of(
     alloc: Global,
     config: &Config,
@@ -150,7 +152,7 @@ fn scope_of(
     })
 }
 
-/// Adds a scope at the end.
+/// Appends a scope.
 fn push_scope(scopes: &mut Vec<Scope>, scope: Scope) -> Result<(), AllocError>
     ensures { OnOk result (scopes.new.items ≡ scopes.old.items ++ scope ∷ []) }
 {
@@ -158,7 +160,7 @@ fn push_scope(scopes: &mut Vec<Scope>, scope: Scope) -> Result<(), AllocError>
     Ok(())
 }
 
-/// The scopes of a configuration that are written so.
+/// Returns the scopes of a configuration, from its written scopes.
 pub(crate) fn all_scopes(
     alloc: Global,
     config: &Config,

@@ -1,4 +1,4 @@
-//! The connections of each scope as they are written.
+//! The written connections of each scope.
 
 ghost use Rattle.std.specs.Prelude.{◌≡◌, ℕ, List, [], ◌∷◌, ◌++◌, map, length, position, IfOk, OnOk, OnErr, if◌then◌else◌};
 ghost use Rattle.std.specs.Str.{bytes_eq};
@@ -21,25 +21,25 @@ use click_base::sequence::Sequence;
 use click_text::syntax::{Config, Element, Head, Span};
 use std::alloc::{AllocError, Global};
 
-/// Whose port an end of a connection is.
+/// The owner of the port at an end of a connection.
 #[derive(Clone, Copy, Debug, PartialEq, Eq, Hash)]
 pub enum Owner {
     /// The body's own inputs, as a source.
     Input,
     /// The body's own outputs, as a target.
     Output,
-    /// The element at that place among the scope's elements.
+    /// The element with this index among the scope's elements.
     Element(usize),
 }
 
-/// An end of a connection: whose port it is, and the first token there.
+/// An end of a connection: the owner of its port, and its first token.
 #[derive(Clone, Copy)]
 pub struct End {
     pub owner: Owner,
     pub first: Span,
 }
 
-/// A connection as it is written.
+/// A connection as written in the text.
 #[derive(Clone, Copy)]
 pub struct WrittenConnection {
     pub from: End,
@@ -48,7 +48,7 @@ pub struct WrittenConnection {
     pub in_port: u8,
 }
 
-/// The names that a scope declares, each once, and the place of the first element as written of each.
+/// The names that a scope declares, and the index of the first written element for each name.
 #[derive(Drop)]
 pub(crate) struct Declared<'a> {
     pub names: LentNames<'a>,
@@ -56,7 +56,9 @@ pub(crate) struct Declared<'a> {
 }
 
 impl<'a> Declared<'a> {
-    /// Adds the name of the element as written at a place, if it is new. An error leaves the names as they were.
+    /// Adds the name of the written element at an index, if it is new.
+    ///
+    /// If it fails with out of memory, the names are unchanged.
     fn add(&mut self, name: &'a [u8], place: usize) -> Result<(), AllocError>
         ensures names { OnOk result (self.new.names ≡ (if has_name name.now self.old.names then self.old.names else self.old.names ++ name.now ∷ [])) }
         ensures firsts { OnOk result (self.new.firsts.items ≡ (if has_name name.now self.old.names then self.old.firsts.items else self.old.firsts.items ++ place ∷ [])) }
@@ -73,7 +75,7 @@ impl<'a> Declared<'a> {
         Ok(())
     }
 
-    /// The place of the first element as written of that name.
+    /// Returns the index of the first written element with this name.
     fn first(&self, name: &[u8]) -> Option<usize>
         ensures { result ≡ at self.now.firsts.items (position (bytes_eq name.now) self.now.names) }
     {
@@ -84,7 +86,7 @@ impl<'a> Declared<'a> {
     }
 }
 
-/// The names that a scope declares.
+/// Returns the names that a scope declares.
 pub(crate) fn declared_in<'a>(
     alloc: Global,
     text: &'a [u8],
@@ -104,7 +106,7 @@ pub(crate) fn declared_in<'a>(
     Ok(declared)
 }
 
-/// The element that a scope declares under a name.
+/// Returns the index of the element that a scope declares under a name.
 fn named(declared: &Declared, numbers: &[usize], name: &[u8]) -> Option<usize>
     ensures { result ≡ at numbers.now (at declared.now.firsts.items (position (bytes_eq name.now) declared.now.names)) }
 {
@@ -114,7 +116,7 @@ fn named(declared: &Declared, numbers: &[usize], name: &[u8]) -> Option<usize>
     }
 }
 
-/// The word or the name that an element begins with.
+/// Returns the word or the name that an element begins with.
 fn word_of(text: &[u8], head: Head) -> &[u8]
     ensures { result.now ≡ spec.word_of text.now head }
 {
@@ -125,7 +127,7 @@ fn word_of(text: &[u8], head: Head) -> &[u8]
     }
 }
 
-/// Whose port an element as written is, before which so many elements stand.
+/// Returns the owner of the port of a written element that follows `number` elements.
 fn owner_of(
     config: &Config,
     in_body: bool,
@@ -155,7 +157,7 @@ fn owner_of(
     }
 }
 
-/// The end of a connection at an element as written.
+/// Returns the end of a connection at a written element that follows `number` elements.
 fn end_at(
     config: &Config,
     in_body: bool,
@@ -174,7 +176,9 @@ fn end_at(
     }
 }
 
-/// The ends at each element of a scope as written, where so many elements stand before each.
+/// Returns the ends at each written element of a scope.
+///
+/// `numbers` has the number of elements before each.
 fn ends_at(
     alloc: Global,
     config: &Config,
@@ -197,7 +201,7 @@ fn ends_at(
     Ok(ends)
 }
 
-/// The ends at each element of a scope as written, which declares these names.
+/// Returns the ends at each written element of a scope that declares these names.
 fn ends_of(
     alloc: Global,
     config: &Config,
@@ -225,7 +229,7 @@ fn ends_of(
     Ok(ends)
 }
 
-/// The connection from the end before to this one, where ports join them.
+/// Returns the connection from the end before to this one, if ports connect them.
 fn written_connection_of(
     from: Option<End>,
     ports: Option<(u8, u8)>,
@@ -244,7 +248,7 @@ fn written_connection_of(
     }
 }
 
-/// The connections that ports join among these ends.
+/// Returns the connections between these ends, by the ports that connect them.
 fn written_connections_between(
     alloc: Global,
     ends: &[End],
@@ -266,7 +270,7 @@ fn written_connections_between(
     Ok(written_connections)
 }
 
-/// The connections of a scope that declares these names.
+/// Returns the connections of a scope that declares these names.
 pub(crate) fn written_connections_in(
     alloc: Global,
     config: &Config,

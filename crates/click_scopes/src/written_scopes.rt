@@ -1,4 +1,4 @@
-//! The scopes of a configuration as they are written: each body by its place, and after them the whole text.
+//! The written scopes of a configuration: each body at its index, and after them the whole text.
 
 ghost use Rattle.std.specs.Prelude.{◌≡◌, List, [], ◌∷◌, ◌++◌, map, slice_get, IfOk, OnOk};
 ghost use Rattle.click_text.specs.declared.syntax.Statement.{Statement as Stated};
@@ -16,7 +16,9 @@ use click_text::syntax::{
 };
 use std::alloc::{AllocError, Global};
 
-/// An element as it is written: the last definition that is visible there, and the ports that join it to the element before it.
+/// A written element, the last definition that is visible to it, and the ports that connect it.
+///
+/// The ports are those of the connection from the element before it in its chain.
 #[derive(Clone, Copy)]
 pub struct WrittenElement {
     pub element: Element,
@@ -24,7 +26,7 @@ pub struct WrittenElement {
     pub ports: Option<(u8, u8)>,
 }
 
-/// A body, the place of the scope that it stands in, and the last definition that is visible there.
+/// A body, the index of the scope around it, and the last definition that is visible before it.
 #[derive(Clone, Copy)]
 pub struct NestedBody {
     pub body: usize,
@@ -32,21 +34,25 @@ pub struct NestedBody {
     pub top: Option<usize>,
 }
 
-/// A scope as it is written: its elements, and the place of the scope that it stands in. The whole text names itself.
+/// A written scope: its written elements, and the index of the scope around it.
+///
+/// The whole text has its own index there.
 #[derive(Drop)]
 pub struct WrittenScope {
     pub written: Vec<WrittenElement>,
     pub outer: usize,
 }
 
-/// The scopes of a configuration, each body at its own place and the whole text after them, and the definitions of classes in them.
+/// The written scopes of a configuration, and the definitions of classes in them.
+///
+/// Each body is at its index, and the whole text after them.
 #[derive(Drop)]
 pub struct WrittenScopes {
     pub scopes: Vec<WrittenScope>,
     pub entries: Vec<ClassEntry>,
 }
 
-/// The number of a port. One that is not written is 0.
+/// Returns the number of a port, which is 0 if none is written.
 fn port_number(port: Option<WrittenPort>) -> u8
     ensures { result ≡ faults.port_number port }
 {
@@ -56,7 +62,7 @@ fn port_number(port: Option<WrittenPort>) -> u8
     }
 }
 
-/// Adds the further elements of a chain.
+/// Appends the further elements of a chain.
 fn push_links(
     written: &mut Vec<WrittenElement>,
     links: &[Link],
@@ -74,7 +80,7 @@ fn push_links(
     Ok(())
 }
 
-/// Adds the elements of a declaration of several names.
+/// Appends the elements of a declaration of several names.
 fn push_names(
     written: &mut Vec<WrittenElement>,
     declaration: &Declaration,
@@ -95,7 +101,7 @@ fn push_names(
     Ok(())
 }
 
-/// Adds the first element of a chain and the further ones.
+/// Appends the elements of a chain.
 fn push_chain(
     written: &mut Vec<WrittenElement>,
     chain: &Chain,
@@ -111,7 +117,7 @@ fn push_chain(
     push_links(written, chain.links.as_slice(), top)
 }
 
-/// Adds the elements of a statement.
+/// Appends the elements of a statement.
 fn push_elements(
     written: &mut Vec<WrittenElement>,
     statement: &Statement,
@@ -126,7 +132,7 @@ fn push_elements(
     }
 }
 
-/// Adds a body that stands in a scope.
+/// Appends a body in a scope.
 fn push_nested_body(
     nested_bodies: &mut Vec<NestedBody>,
     body: usize,
@@ -194,7 +200,7 @@ fn push_chain_nested_bodies(
     push_link_nested_bodies(nested_bodies, chain.links.as_slice(), outer, top)
 }
 
-/// Adds the bodies that stand in a statement.
+/// Appends the bodies in a statement.
 fn push_nested_bodies(
     nested_bodies: &mut Vec<NestedBody>,
     statement: &Statement,
@@ -218,7 +224,9 @@ fn push_nested_bodies(
     }
 }
 
-/// The definition that a statement makes, after those up to `top`.
+/// Returns the definition that a statement makes, if it makes one.
+///
+/// The last definition that is visible has the index `top`.
 fn entry_of(
     text: &[u8],
     entries: &[ClassEntry],
@@ -244,7 +252,9 @@ fn entry_of(
     }
 }
 
-/// Adds the definition that a statement makes, and says what is visible after it.
+/// Appends the definition that a statement makes, if it makes one.
+///
+/// Returns the index of the last definition that is visible after the statement.
 fn define(
     text: &[u8],
     entries: &mut Vec<ClassEntry>,
@@ -265,7 +275,7 @@ fn define(
     }
 }
 
-/// A scope, whose definitions and bodies are added.
+/// Returns a written scope, and appends its definitions and its bodies.
 fn written_scope(
     alloc: Global,
     text: &[u8],
@@ -294,7 +304,7 @@ fn written_scope(
     })
 }
 
-/// The statements of the body at a place.
+/// Returns the statements of the body at an index.
 fn statements_at(bodies: &[Body], place: usize) -> &[Statement]
     ensures { result.now ≡ body_statements (slice_get bodies.now place) }
 {
@@ -304,7 +314,7 @@ fn statements_at(bodies: &[Body], place: usize) -> &[Statement]
     }
 }
 
-/// Adds a scope at the end.
+/// Appends a scope.
 fn push_scope(scopes: &mut Vec<WrittenScope>, scope: WrittenScope) -> Result<(), AllocError>
     ensures { OnOk result (scopes.new.items ≡ scopes.old.items ++ scope ∷ []) }
 {
@@ -312,7 +322,7 @@ fn push_scope(scopes: &mut Vec<WrittenScope>, scope: WrittenScope) -> Result<(),
     Ok(())
 }
 
-/// The scopes of a configuration, and the definitions of classes in them.
+/// Returns the written scopes of a configuration, and the definitions of classes in them.
 pub fn scopes_of(alloc: Global, config: &Config) -> Result<WrittenScopes, AllocError>
     requires { IsNested config.now }
     ensures scopes { IfOk result (λ r. AreWrittenScopes config.now r.entries.items r.scopes.items) }

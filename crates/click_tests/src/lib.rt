@@ -1,41 +1,36 @@
-//! Tests of the public calls of what stands beside the desk or below it, crate by crate; a crate with tests of its own would be proved twice.
+//! Tests of what no script of the player can show: threads, rows and tables of handlers, peers of
+//! the code itself.
 #![tactic(auto)]
 
 #[cfg(test)]
-mod alone;
+mod cases;
 #[cfg(test)]
-mod arguments;
+mod commands;
 #[cfg(test)]
-mod classes;
+mod counts;
 #[cfg(test)]
-mod control;
+mod desks;
 #[cfg(test)]
-mod expand;
+mod drivers;
 #[cfg(test)]
-mod faults;
+mod feeds;
 #[cfg(test)]
-mod handlers;
+mod gates;
 #[cfg(test)]
-mod lines;
+mod links;
 #[cfg(test)]
-mod lists;
+mod peers;
 #[cfg(test)]
-mod overruns;
+mod routers;
 #[cfg(test)]
-mod packet;
+mod seats;
 #[cfg(test)]
-mod packets;
+mod serving;
 #[cfg(test)]
-mod pictures;
-#[cfg(test)]
-mod ports;
-#[cfg(test)]
-mod steps;
-#[cfg(test)]
-mod swapping;
+mod slots;
 #[cfg(test)]
 mod tables;
 #[cfg(test)]
-mod text;
+mod views;
 #[cfg(test)]
-mod turns;
+mod workers;

@@ -1,5 +1,7 @@
--- The arguments of a text: read from the front (`ArgumentCuts`), in one way (`OneArgumentList`), joined again (`JoinedArguments`), what they stand
--- for (`ArgumentQuotes`), their words (`WordCuts`), and texts that leave no quote open (`StringTexts`).
+-- The arguments of a text: how they are read from the front (`ArgumentCuts`), that they are unique
+-- (`OneArgumentList`), and that they join to the text (`JoinedArguments`). Also the bytes that they
+-- stand for (`ArgumentQuotes`), their words (`WordCuts`), and that a configuration string closes
+-- each quote that it opens (`StringTexts`).
 pub mod ArgumentCuts
 pub mod ArgumentQuotes
 pub mod JoinedArguments

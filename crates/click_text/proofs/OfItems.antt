@@ -1,4 +1,5 @@
--- The items of a text: how one begins (`ItemForms`), and that each text has one list of them (`ItemExistence`, `OneItemList`).
+-- The items of a text: which one begins it (`ItemForms`), and that each text has exactly one list
+-- of items (`ItemExistence`, `OneItemList`).
 pub mod ItemExistence
 pub mod ItemForms
 pub mod OneItemList

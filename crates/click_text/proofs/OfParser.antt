@@ -1,6 +1,7 @@
--- The parser's machine and the grammar: its steps (`ParserSteps`, `StateTokens`), from the grammar to it (`GrammarRuns`) and back (`Completions`,
--- `OpenStates`, `RunOutcomes`), that both accept the same texts (`GrammarEquality`), and that each text has one tree or one first fault (`OneFault`,
--- `TextOutcome`, `OneAnswer`).
+-- The parser's state machine and the grammar: the steps of the machine (`ParserSteps`,
+-- `StateTokens`), from the grammar to the machine (`GrammarRuns`) and back (`Completions`,
+-- `OpenStates`, `RunOutcomes`). Both accept the same texts (`GrammarEquality`), and each text has
+-- one tree or one first fault (`OneFault`, `TextOutcome`, `OneAnswer`).
 pub mod Completions
 pub mod GrammarEquality
 pub mod GrammarRuns

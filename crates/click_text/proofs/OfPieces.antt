@@ -1,5 +1,6 @@
--- The pieces of a text: how one begins (`FirstBytes`) and ends (`StringEnds`, `WordForms`), which is the longest (`LongestPiece`), and that each text
--- has one list of them (`PieceExistence`, `OnePieceList`).
+-- The pieces of a text: how one begins (`FirstBytes`) and ends (`StringEnds`, `WordForms`), and
+-- which one is the longest (`LongestPiece`). Each text has exactly one list of them
+-- (`PieceExistence`, `OnePieceList`).
 pub mod FirstBytes
 pub mod LongestPiece
 pub mod OnePieceList

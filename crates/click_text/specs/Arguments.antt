@@ -14,45 +14,48 @@ is_comma _ = false
 abbrev pub all_blank : List Item → Bool
 all_blank items = list_all is_blank_item items
 
--- the white space and comments that items begin with
+-- the white space and comments at the front
 abbrev pub front : List Item → List Item
 front [] = []
 front (i ∷ items) = if is_blank_item i then i ∷ front items else []
 
--- items without the white space and comments that they end with
+-- the items without the white space and comments at the back
 abbrev pub without_back : List Item → List Item
 without_back [] = []
 without_back (i ∷ items) = if all_blank (i ∷ items) then [] else i ∷ without_back items
 
--- where the argument of these items stands, which begin at that place: after them, where it is empty
+-- the span of an argument with these items, which begin at offset `at`; for an empty argument it is
+-- empty, after them
 abbrev pub argument_span : ℕ → List Item → Span
 argument_span at items =
     if all_blank items then span (at + size items) (at + size items)
     else span (at + size (front items)) (at + size (without_back items))
 
--- where the arguments of these lists stand, with a comma between two of them
+-- the spans of arguments with these items, which begin at offset `at`, with a comma between two of
+-- them
 abbrev pub arguments_from : ℕ → List (List Item) → List Span
 arguments_from at [] = []
 arguments_from at (p ∷ ps) = argument_span at p ∷ arguments_from (at + size p + 1) ps
 
--- the arguments of a text with these items: what stands between the commas outside parentheses
+-- the arguments of a text with these items: what is between the commas outside parentheses
 abbrev pub cut : List Item → List Span
 cut items = if all_blank items then [] else arguments_from 0 (parted is_comma 0 items)
 
--- the arguments of a text
+-- `spans` are the spans of the text's arguments
 pub record AreArguments (text : List ℕ) (spans : List Span) : Type 0 where
   pub items : List Item
   pub read : AreItems text items
   pub cuts : spans ≡ cut items
 
--- Laws.
+-- For laws.
 
--- spans that stand in order and apart between two places
+-- the spans are in order between two offsets, with at least one byte between two of them
 abbrev pub SpansInOrder : ℕ → List Span → ℕ → Type 0
 SpansInOrder from [] to = Unit {0}
 SpansInOrder from (s ∷ spans) to = (from ≤ s.start) × (s.start ≤ s.end) × (s.end ≤ to) × SpansInOrder (s.end + 1) spans to
 
--- Bytes that stand from a place on are what stands at these spans, with white space and comments before and after each, and a comma between two of them.
+-- `AreJoined at bytes spans`: the bytes, which begin at offset `at`, are those of the spans joined
+-- by commas, with white space and comments before and after each.
 pub data AreJoined : ℕ → List ℕ → List Span → Type 0 where
   last : (at : ℕ) (before inside after : List ℕ) → IsBlank before → IsBlank after →
       AreJoined at (before ++ (inside ++ after)) (span (at + length before) (at + length before + length inside) ∷ [])
@@ -60,6 +63,6 @@ pub data AreJoined : ℕ → List ℕ → List Span → Type 0 where
       AreJoined (at + length before + length inside + length after + 1) rest spans →
       AreJoined at ((before ++ (inside ++ after)) ++ 44 ∷ rest) (span (at + length before) (at + length before + length inside) ∷ spans)
 
--- no arguments and nothing but white space and comments, or the arguments joined
+-- the arguments joined are the text; or there are none, and the text is white space and comments
 abbrev pub IsTextOf : List ℕ → List Span → Type 0
 IsTextOf text spans = (IsBlank text × (spans ≡ [])) ⊎ AreJoined 0 text spans

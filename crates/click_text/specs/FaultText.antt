@@ -1,9 +1,9 @@
--- What a kind of fault is called.
+-- The texts of the kinds of faults.
 use Rattle.std.specs.Prelude.{ℕ, List, codes}
 use Rattle.click_text.specs.declared.syntax.FaultKind.{FaultKind}
 use Rattle.click_text.specs.declared.syntax.FaultKind.TheVariants as kind
 
--- its number and its name, as operators see them
+-- the number and the name of a kind, as operators see them
 abbrev pub kind_text : FaultKind → List ℕ
 kind_text kind.BadByte = codes "1 BadByte"
 kind_text kind.UnclosedComment = codes "2 UnclosedComment"

@@ -1,4 +1,5 @@
--- The text of a configuration string as a list of items (Click manual, "Configuration strings"), each the longest that begins there.
+-- A configuration string as a list of items, each the longest that begins at its offset (Click
+-- manual, "Configuration strings").
 use Rattle.std.specs.Prelude.{◌≡◌, ◌⊎◌, ℕ, ◌+◌, ◌-◌, ◌<◌, ◌≤◌, List, [], ◌∷◌, ◌++◌, length, take, drop, Bool, true, false, ◌&&◌, eqb, if◌then◌else◌}
 use Rattle.click_text.specs.declared.items.ItemKind.{ItemKind}
 use Rattle.click_text.specs.declared.items.ItemKind.TheVariants as kind
@@ -13,7 +14,7 @@ abbrev pub is_plain : Mode → Bool
 is_plain mode.Plain = true
 is_plain _ = false
 
--- the last of these bytes leads out of the quote, and none before it does
+-- the last of these bytes ends the quote, and no byte before it does
 abbrev pub ends_quote : Mode → List ℕ → Bool
 ends_quote m [] = false
 ends_quote m (b ∷ []) = is_plain (mode_after m b)
@@ -23,7 +24,7 @@ ends_quote m (b ∷ c ∷ p) = if is_plain (mode_after m b) then false else ends
 abbrev pub IsItem : ItemKind → List ℕ → Type 0
 IsItem kind.White p = IsPiece piece.Blank p
 IsItem kind.Comment p = IsPiece piece.LineComment p ⊎ IsPiece piece.BlockComment p
--- `"` up to the next `"` that isn't right after a `\`, which takes the next byte with it
+-- `"` up to the next `"`; a `\` takes the next byte with it
 IsItem kind.Double p = (r : List ℕ) × (p ≡ 34 ∷ r) × (ends_quote mode.Double r ≡ true)
 -- `'` up to the next `'`
 IsItem kind.Single p = (r : List ℕ) × (p ≡ 39 ∷ r) × (ends_quote mode.Single r ≡ true)
@@ -32,7 +33,7 @@ IsItem kind.Hexadecimal p = (r : List ℕ) × (p ≡ 92 ∷ 60 ∷ r) × (ends_q
 -- any other byte
 IsItem (kind.Byte b) p = (white b ≡ false) × (p ≡ b ∷ [])
 
--- the longest item that begins the text is its first n bytes, of that kind
+-- the longest item that begins the text has n bytes and that kind
 pub record LongestItem (text : List ℕ) (k : ItemKind) (n : ℕ) : Type 0 where
   pub within : n ≤ length text
   pub form : IsItem k (take n text)
@@ -68,17 +69,19 @@ blank_kind _ = false
 abbrev pub is_blank_item : Item → Bool
 is_blank_item i = blank_kind i.kind
 
--- how many parentheses are open after an item; one that closes none is passed over
+-- the number of open parentheses after an item; a closing parenthesis without an open one is
+-- ignored
 abbrev pub parentheses_after : ItemKind → ℕ → ℕ
 parentheses_after (kind.Byte b) depth = if eqb b 40 then depth + 1 else if eqb b 41 then depth - 1 else depth
 parentheses_after _ depth = depth
 
--- puts an item before the first of some lists
+-- the lists with an item in front of the first of them
 abbrev pub put : Item → List (List Item) → List (List Item)
 put i [] = (i ∷ []) ∷ []
 put i (p ∷ ps) = (i ∷ p) ∷ ps
 
--- with so many parentheses open, the items between those that pass the test outside parentheses
+-- the lists of items between those that pass the test outside parentheses; `depth` parentheses are
+-- open before
 abbrev pub parted : (ItemKind → Bool) → ℕ → List Item → List (List Item)
 parted test depth [] = [] ∷ []
 parted test depth (i ∷ items) =

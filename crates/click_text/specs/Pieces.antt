@@ -1,4 +1,5 @@
--- A text as a list of pieces (Click manual, "Lexical structure"): white space, comments and tokens, each the longest piece that begins there.
+-- A text as a list of pieces, each the longest that begins at its offset (Click manual, "Lexical
+-- structure"). A piece is white space, a comment or a token.
 use Rattle.std.specs.Prelude.{◌≡◌, ◌≢◌, ℕ, ◌+◌, ◌*◌, ◌-◌, ◌<◌, ◌≤◌, List, [], ◌∷◌, length, take, drop, Bool, true, false, ◌||◌, ◌&&◌, eqb, leb, nat_lt, codes, Option, Some, None, if◌then◌else◌}
 use Rattle.std.specs.List.{list_all}
 use Rattle.click_text.specs.declared.syntax.Span.{Span}
@@ -24,17 +25,17 @@ digit b = leb 48 b && leb b 57
 abbrev pub name_byte : ℕ → Bool
 name_byte b = digit b || (leb 65 b && leb b 90) || (leb 97 b && leb b 122) || eqb b 95
 
--- a byte of a name, or `@`
+-- a name byte or `@`
 abbrev pub word_byte : ℕ → Bool
 word_byte b = name_byte b || eqb b 64
 
--- runs of word bytes, joined by single `/`
+-- word bytes, with a single `/` between two runs of them
 abbrev pub is_word : List ℕ → Bool
 is_word [] = false
 is_word (b ∷ []) = word_byte b
 is_word (b ∷ c ∷ p) = word_byte b && (if eqb c 47 then is_word p else is_word (c ∷ p))
 
--- the last two bytes are `*/`, and these two stand together nowhere before
+-- the last two bytes are `*/`, and no two before them are
 abbrev pub ends_comment : List ℕ → Bool
 ends_comment [] = false
 ends_comment (b ∷ []) = false
@@ -69,7 +70,7 @@ IsPiece piece.Open p = p ≡ codes "{"
 IsPiece piece.Close p = p ≡ codes "}"
 IsPiece piece.Bar p = p ≡ codes "|"
 
--- the longest piece that begins the text is its first n bytes, of that kind
+-- the longest piece that begins the text has n bytes and that kind
 pub record Longest (text : List ℕ) (k : Piece) (n : ℕ) : Type 0 where
   pub within : n ≤ length text
   pub form : IsPiece k (take n text)
@@ -79,7 +80,7 @@ pub record Longest (text : List ℕ) (k : Piece) (n : ℕ) : Type 0 where
 abbrev pub NoPiece : List ℕ → Type 0
 NoPiece text = (k : Piece) (m : ℕ) → m ≤ length text → IsPiece k (take m text) → ⊥
 
--- the number that digits spell, after one that was read before them
+-- the number that digits spell, if n was read before them
 abbrev pub decimal_after : ℕ → List ℕ → ℕ
 decimal_after n [] = n
 decimal_after n (d ∷ ds) = decimal_after (10 * n + (d - 48)) ds
@@ -88,7 +89,7 @@ decimal_after n (d ∷ ds) = decimal_after (10 * n + (d - 48)) ds
 abbrev pub port_spelled : List ℕ → Option ℕ
 port_spelled digits = if nat_lt (decimal_after 0 digits) 256 then Some (decimal_after 0 digits) else None
 
--- the token of a piece, of these bytes and at that span; white space and comments have none
+-- the token of a piece with these bytes and this span; white space and comments have none
 abbrev pub token_of : Piece → List ℕ → Span → Option Token
 token_of piece.Blank p s = None
 token_of piece.LineComment p s = None
@@ -120,14 +121,16 @@ abbrev pub begins_string : List ℕ → Bool
 begins_string (b ∷ text) = eqb b 40
 begins_string _ = false
 
--- Where no piece begins, at the place `at` before these bytes: a comment or a string that is not closed before the end, else a bad byte.
+-- The fault at offset `at`, if this text is left and no piece begins it: a comment or a string
+-- that is not closed, or else a bad byte.
 abbrev pub piece_fault : ℕ → List ℕ → Ending
 piece_fault at text =
     if begins_comment text then ending.Stuck (fault kind.UnclosedComment at (at + length text))
     else if begins_string text then ending.Stuck (fault kind.UnclosedString at (at + length text))
     else ending.Stuck (fault kind.BadByte at (at + 1))
 
--- From the place `at` on, where the text left stands, its pieces have these tokens, up to that ending.
+-- `Reads at text tokens ending`: the text that is left at offset `at` consists of pieces with these
+-- tokens, up to that ending.
 pub data Reads : ℕ → List ℕ → List Token → Ending → Type 0 where
   ends : (at : ℕ) → Reads at [] [] ending.Whole
   passes : (at : ℕ) (text : List ℕ) (ts : List Token) (e : Ending) (k : Piece) (n : ℕ) → Longest text k n → token_of k (take n text) (span at (at + n)) ≡ None →
@@ -136,6 +139,6 @@ pub data Reads : ℕ → List ℕ → List Token → Ending → Type 0 where
       Reads (at + n) (drop n text) ts e → Reads at text (tok ∷ ts) e
   stuck : (at : ℕ) (text : List ℕ) → 0 < length text → NoPiece text → Reads at text [] (piece_fault at text)
 
--- white space and comments alone
+-- the text is only white space and comments
 abbrev pub IsBlank : List ℕ → Type 0
 IsBlank text = Reads 0 text [] ending.Whole

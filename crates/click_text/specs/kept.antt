@@ -1,4 +1,4 @@
--- What only the code keeps on its way: no public contract speaks of it.
+-- Internal definitions: no public contract cites them.
 pub mod EndFault
 pub mod LongItems
 pub mod ParserStates

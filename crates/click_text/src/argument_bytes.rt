@@ -1,4 +1,4 @@
-//! What an argument stands for without its quotes.
+//! Unquoting: the bytes that an argument stands for.
 
 ghost use Rattle.std.specs.Prelude.{◌≡◌, ◌<◌, IfOk, IfErr, IfSome};
 ghost use Rattle.click_text.specs.Faults.{no_memory};
@@ -10,7 +10,7 @@ use crate::items::{ItemKind, first_item};
 use crate::syntax::TextFault;
 use std::alloc::{AllocError, Global};
 
-/// What is open after a byte with escapes before it.
+/// The state of unescaping after some bytes: what is open.
 #[derive(Clone, Copy, Debug, PartialEq, Eq)]
 pub enum Escape {
     /// Neither `\` nor `\<..>`.
@@ -19,11 +19,11 @@ pub enum Escape {
     Backslash,
     /// `\<..>`, after an even number of digits.
     Digits,
-    /// `\<..>`, after an odd number of digits, the last of which is worth that much.
+    /// `\<..>`, after an odd number of digits. The field is the value of the last one.
     Half(u8),
 }
 
-/// What is open after a byte, and the byte that it adds.
+/// The state after a byte, and the byte that it adds to the result.
 #[derive(Clone, Copy, Debug, PartialEq, Eq)]
 struct Step {
     state: Escape,
@@ -38,7 +38,7 @@ impl Step {
     }
 }
 
-/// What a hexadecimal digit is worth.
+/// Returns the value of a hexadecimal digit, or `None` for another byte.
 fn hex_digit_value(byte: u8) -> Option<u8>
     ensures value { result ≡ hex_digit_value byte }
     ensures small { IfSome result (λ value. value < 16) }
@@ -51,7 +51,7 @@ fn hex_digit_value(byte: u8) -> Option<u8>
     }
 }
 
-/// The byte that `\` and this byte stand for.
+/// Returns the byte that `\` followed by this byte stands for.
 fn escaped(byte: u8) -> u8
     ensures { result ≡ escaped byte }
 {
@@ -64,7 +64,7 @@ fn escaped(byte: u8) -> u8
 }
 
 impl Escape {
-    /// What a byte does. None is bad quoting.
+    /// Returns the step that a byte makes, or `None` for bad quoting.
     fn after(self, byte: u8) -> Option<Step>
         requires { fits_digit self }
         ensures step { result ≡ stepped self byte }
@@ -86,7 +86,7 @@ impl Escape {
         }
     }
 
-    /// Nothing is open.
+    /// Returns whether nothing is open.
     fn is_clear(self) -> bool
         ensures { result ≡ is_clear self }
     {
@@ -97,7 +97,9 @@ impl Escape {
     }
 }
 
-/// Adds what bytes with escapes stand for. Without that it answers no: bad quoting.
+/// Appends the bytes that `bytes`, with escapes in them, stand for.
+///
+/// Returns false for bad quoting; `to` may have grown then.
 fn push_unescaped(to: &mut Vec<u8>, bytes: &[u8]) -> Result<bool, AllocError>
     ensures { IfOk result (λ good. IsExtendedBy good (unescaped Escape.Clear bytes.now) to.old.items to.new.items) }
 {
@@ -114,7 +116,7 @@ fn push_unescaped(to: &mut Vec<u8>, bytes: &[u8]) -> Result<bool, AllocError>
     Ok(escape.is_clear())
 }
 
-/// What stands between the first of these bytes and the last.
+/// Returns the bytes without the first and the last one.
 fn without_ends(bytes: &[u8]) -> &[u8]
     ensures { result.now ≡ without_ends bytes.now }
 {
@@ -124,7 +126,9 @@ fn without_ends(bytes: &[u8]) -> &[u8]
     }
 }
 
-/// Adds what an item stands for. Without that it answers no: bad quoting.
+/// Appends the bytes that an item stands for.
+///
+/// Returns false for bad quoting; `to` may have grown then.
 fn push_plain(to: &mut Vec<u8>, kind: ItemKind, bytes: &[u8]) -> Result<bool, AllocError>
     ensures { IfOk result (λ good. IsExtendedBy good (plain_item kind bytes.now) to.old.items to.new.items) }
 {
@@ -138,7 +142,7 @@ fn push_plain(to: &mut Vec<u8>, kind: ItemKind, bytes: &[u8]) -> Result<bool, Al
     Ok(true)
 }
 
-/// What an argument stands for without its quotes.
+/// Does what `unquote` does, with `AllocError` as its error.
 fn plain_of(alloc: Global, argument: &[u8]) -> Result<Option<Vec<u8>>, AllocError>
     ensures { IfOk result (λ bytes. IsPlain argument.now bytes) }
 {
@@ -155,10 +159,16 @@ fn plain_of(alloc: Global, argument: &[u8]) -> Result<Option<Vec<u8>>, AllocErro
     Ok(Some(bytes))
 }
 
-/// What an argument stands for without its quotes, or none where their text is bad (Click manual, "Configuration strings"). Outside quotes bytes stand for themselves, and a comment is one space. `'..'` stands for its bytes, and `\<..>` for those of its hexadecimal digits, spaces aside. In `".."` a `\` stands with `n`, `r` or `t` for LF, CR or tab, with `<..>` for bytes as outside, and with any other byte for that byte.
+/// Returns the bytes that an argument stands for, or `None` for bad quoting.
+///
+/// The rules are those of the Click manual, "Configuration strings". Outside quotes a byte stands
+/// for itself, and a comment stands for one space. A quote `'..'` stands for the bytes in it. A
+/// quote `\<..>` stands for the bytes that its hexadecimal digits spell; spaces in it are skipped.
+/// In `".."`, the escapes `\n`, `\r` and `\t` stand for LF, CR and tab, and `\<..>` is read as
+/// outside. A `\` before any other byte stands for that byte.
 pub fn unquote(alloc: Global, argument: &[u8]) -> Result<Option<Vec<u8>>, TextFault>
     ensures ok { IfOk result (λ bytes. IsPlain argument.now bytes) }
-    // It stops only where memory runs out.
+    // The only error is out of memory.
     ensures err { IfErr result (λ f. f ≡ no_memory) }
 {
     Ok(plain_of(alloc, argument)?)

@@ -18,7 +18,8 @@ fn is_comma(kind: ItemKind) -> bool
     }
 }
 
-/// Where an argument stands that ends at a place, where that much of it was found.
+/// Returns the span of an argument that ends at `end`: what was found of it, or an empty span
+/// there.
 fn argument_found(found: Option<Span>, end: usize) -> Span
     ensures { result ≡ found_or found end }
 {
@@ -28,7 +29,7 @@ fn argument_found(found: Option<Span>, end: usize) -> Span
     }
 }
 
-/// Where what was found stands with an item, which begins at a place and ends at another.
+/// Returns what was found of an argument after one more item, which has the span `start` to `end`.
 fn grown_argument(found: Option<Span>, kind: ItemKind, start: usize, end: usize) -> Option<Span>
     ensures { result ≡ grown_argument found kind start end }
 {
@@ -44,7 +45,7 @@ fn grown_argument(found: Option<Span>, kind: ItemKind, start: usize, end: usize)
     }
 }
 
-/// No argument has come, and nothing was found of one.
+/// Returns whether no argument was completed and nothing of the next one was found.
 fn is_nothing(spans: &[Span], found: Option<Span>) -> bool
     ensures { result ≡ is_nothing spans.now found }
 {
@@ -54,7 +55,7 @@ fn is_nothing(spans: &[Span], found: Option<Span>) -> bool
     }
 }
 
-/// The arguments of a configuration string.
+/// Does what `arguments` does, with `AllocError` as its error.
 fn spans_of(alloc: Global, text: &[u8]) -> Result<Vec<Span>, AllocError>
     ensures { IfOk result (λ spans. AreArguments text.now spans.items) }
 {
@@ -81,10 +82,15 @@ fn spans_of(alloc: Global, text: &[u8]) -> Result<Vec<Span>, AllocError>
     Ok(spans)
 }
 
-/// The arguments of a configuration string: what stands between the commas outside quotes, comments and parentheses, without the white space and the comments at its ends (Click manual, "Configuration strings"). An empty argument stands at the comma that closes it, or at the end of the text. A text of white space and comments alone has no arguments.
+/// Returns the spans of the arguments of a configuration string.
+///
+/// An argument is what is between two commas that are outside quotes, comments and parentheses,
+/// without white space and comments at its ends (Click manual, "Configuration strings"). The span
+/// of an empty argument is empty, at the comma after it or at the end of the text. A text of only
+/// white space and comments has no arguments.
 pub fn arguments(alloc: Global, text: &[u8]) -> Result<Vec<Span>, TextFault>
     ensures ok { IfOk result (λ spans. AreArguments text.now spans.items) }
-    // It stops only where memory runs out.
+    // The only error is out of memory.
     ensures err { IfErr result (λ f. f ≡ no_memory) }
 {
     Ok(spans_of(alloc, text)?)

@@ -9,7 +9,7 @@ use crate::syntax::TextFault;
 use click_base::sequence::Sequence;
 use std::alloc::{AllocError, Global};
 
-/// The bytes of an item, a space for a comment.
+/// Returns the bytes of an item, or a space for a comment.
 fn spaced<'a>(kind: ItemKind, bytes: &'a [u8]) -> &'a [u8]
     ensures { result.now ≡ (spaced_as kind bytes.now).bytes }
 {
@@ -19,7 +19,7 @@ fn spaced<'a>(kind: ItemKind, bytes: &'a [u8]) -> &'a [u8]
     }
 }
 
-/// Adds a word that has bytes.
+/// Appends the word, unless it is empty.
 fn end_word(words: &mut Vec<Sequence<u8>>, word: Vec<u8>) -> Result<(), AllocError>
     ensures { OnOk result (words.new.items ≡ words.old.items ++ word_before word.items []) }
 {
@@ -29,7 +29,7 @@ fn end_word(words: &mut Vec<Sequence<u8>>, word: Vec<u8>) -> Result<(), AllocErr
     Ok(())
 }
 
-/// The words of an argument.
+/// Does what `words` does, with `AllocError` as its error.
 fn words_of(alloc: Global, argument: &[u8]) -> Result<Vec<Sequence<u8>>, AllocError>
     ensures { IfOk result (λ words. AreWords argument.now words.items) }
 {
@@ -53,10 +53,13 @@ fn words_of(alloc: Global, argument: &[u8]) -> Result<Vec<Sequence<u8>>, AllocEr
     Ok(words)
 }
 
-/// The words of an argument: what stands between the white space outside quotes and parentheses, each comment read as one space. A word keeps its quotes and parentheses (Click manual, "Configuration strings").
+/// Returns the words of an argument.
+///
+/// A word is what is between white space outside quotes and parentheses, where each comment counts
+/// as one space. It keeps its quotes and parentheses (Click manual, "Configuration strings").
 pub fn words(alloc: Global, argument: &[u8]) -> Result<Vec<Sequence<u8>>, TextFault>
     ensures ok { IfOk result (λ words. AreWords argument.now words.items) }
-    // It stops only where memory runs out.
+    // The only error is out of memory.
     ensures err { IfErr result (λ f. f ≡ no_memory) }
 {
     Ok(words_of(alloc, argument)?)

@@ -7,25 +7,25 @@ ghost use Rattle.click_text.specs.kept.LongItems.{NoLongItem};
 use crate::lexer::{comment, is_white};
 use crate::strings::Mode;
 
-/// What an item is.
+/// The kind of an item.
 #[derive(Clone, Copy, Debug, PartialEq, Eq)]
 pub enum ItemKind {
     /// A byte of white space.
     White,
-    /// A comment, up to the next LF or to the next `*/`.
+    /// A comment, up to the next LF or up to the next `*/`.
     Comment,
-    /// `".."`.
+    /// A quote `".."`.
     Double,
-    /// `'..'`.
+    /// A quote `'..'`.
     Single,
-    /// `\<..>`.
+    /// A quote `\<..>`.
     Hexadecimal,
-    /// Another byte.
+    /// Any other byte.
     Byte(u8),
 }
 
 impl ItemKind {
-    /// White space or a comment.
+    /// Returns whether the item is white space or a comment.
     pub fn is_blank(self) -> bool
         ensures { result ≡ blank_kind self }
     {
@@ -35,7 +35,9 @@ impl ItemKind {
         }
     }
 
-    /// How many parentheses are open after the item. One that closes none is passed over.
+    /// Returns the number of open parentheses after the item.
+    ///
+    /// `depth` is the number before it. A closing parenthesis without an open one is ignored.
     pub fn depth_after(self, depth: usize) -> usize
         requires { depth + 1 < 2 ^ 64 }
         ensures { result ≡ parentheses_after self depth }
@@ -48,7 +50,7 @@ impl ItemKind {
     }
 }
 
-/// Neither a quote nor a comment is open.
+/// Returns whether neither a quote nor a comment is open.
 fn is_plain(mode: Mode) -> bool
     ensures { result ≡ is_plain mode }
 {
@@ -58,7 +60,7 @@ fn is_plain(mode: Mode) -> bool
     }
 }
 
-/// How many bytes end with the first that leads out of a quote.
+/// Returns the number of bytes up to and including the first that ends the quote, if one does.
 fn quote_len(quote: Mode, text: &[u8]) -> Option<usize>
     ensures within { IfSome result (λ len. len ≤ length text.now) }
     ensures ends { IfSome result (λ len. ends_quote quote (take len text.now) ≡ true) }
@@ -74,7 +76,7 @@ fn quote_len(quote: Mode, text: &[u8]) -> Option<usize>
     None
 }
 
-/// The comment or the quote that begins a text, and its length.
+/// Returns the kind and the length of the comment or quote that begins a text, if one does.
 fn long_item(text: &[u8]) -> Option<(ItemKind, usize)>
     requires { 0 < length text.now }
     ensures some { IfSome result (λ found. LongestItem text.now found.0 found.1) }
@@ -102,7 +104,7 @@ fn long_item(text: &[u8]) -> Option<(ItemKind, usize)>
     }
 }
 
-/// The longest item that begins a text, and its length.
+/// Returns the kind and the length of the longest item that begins a text.
 pub fn first_item(text: &[u8]) -> (ItemKind, usize)
     requires { 0 < length text.now }
     ensures longest { LongestItem text.now result.0 result.1 }

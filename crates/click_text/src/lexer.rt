@@ -1,4 +1,4 @@
-//! The pieces of a text: white space, comments and tokens.
+//! The lexer: cuts a text into pieces, which are white space, comments and tokens.
 
 ghost use Rattle.std.specs.Prelude.{◌≡◌, ◌<◌, ◌≤◌, ◌+◌, ◌^◌, ℕ, eqb, if◌then◌else◌, length, take, slice_index, IfOk, IfSome, IfNone, IsTrue, true, false};
 ghost use Rattle.std.specs.List.{list_all};
@@ -9,7 +9,7 @@ use crate::strings::string_len;
 use crate::syntax::{Ending, FaultKind, Span, TextFault, Token};
 use std::alloc::{AllocError, Global};
 
-/// What a piece of a text is.
+/// The kind of a piece.
 #[derive(Clone, Copy, Debug, PartialEq, Eq)]
 pub enum Piece {
     Blank,
@@ -33,7 +33,8 @@ pub enum Piece {
 }
 
 impl Piece {
-    /// The token of a piece of these bytes that stands there.
+    /// Returns the token of a piece with these bytes and this span. White space and comments have
+    /// none.
     fn token(self, bytes: &[u8], span: Span) -> Option<Token>
         ensures { result ≡ token_of self bytes.now span }
     {
@@ -82,7 +83,7 @@ fn is_word_byte(byte: u8) -> bool
     is_name_byte(byte) || byte == b'@'
 }
 
-/// A word byte stands there.
+/// Returns whether the byte at offset `at` exists and can be part of a word.
 fn is_word_at(text: &[u8], at: usize) -> bool
     ensures byte { result ≡ word_byte (slice_index text.now at) }
     ensures within { IsTrue result → at < length text.now }
@@ -90,7 +91,7 @@ fn is_word_at(text: &[u8], at: usize) -> bool
     at < text.len() && is_word_byte(text[at])
 }
 
-/// How long the word is that the text begins with.
+/// Returns the length of the longest word that begins the text.
 fn word_len(text: &[u8]) -> usize
     requires some { 0 < length text.now }
     requires first { word_byte (slice_index text.now 0) ≡ true }
@@ -112,14 +113,14 @@ fn word_len(text: &[u8]) -> usize
     len
 }
 
-/// The bytes are all digits.
+/// Returns whether all bytes are digits.
 fn are_digits(bytes: &[u8]) -> bool
     ensures { result ≡ list_all digit bytes.now }
 {
     bytes.iter().all(|byte| is_digit(*byte))
 }
 
-/// What a word is that ends where it must.
+/// Returns the kind of a piece that has the form of a word: a number, a keyword or a word.
 fn word_kind(word: &[u8]) -> Piece
     requires { is_word word.now ≡ true }
     ensures { IsPiece result word.now }
@@ -136,7 +137,7 @@ fn word_kind(word: &[u8]) -> Piece
     Piece::Word
 }
 
-/// How many name bytes the text begins with.
+/// Returns the number of name bytes that begin the text.
 fn name_len(text: &[u8]) -> usize
     ensures within { result ≤ length text.now }
     ensures all { list_all name_byte (take result text.now) ≡ true }
@@ -150,7 +151,7 @@ fn name_len(text: &[u8]) -> usize
     text.len()
 }
 
-/// How many bytes stand before the next LF, or before the end.
+/// Returns the number of bytes before the next LF, or before the end if there is none.
 fn line_len(text: &[u8]) -> usize
     ensures within { result ≤ length text.now }
     ensures all { list_all (λ b. if eqb b 10 then false else true) (take result text.now) ≡ true }
@@ -164,7 +165,7 @@ fn line_len(text: &[u8]) -> usize
     text.len()
 }
 
-/// How many bytes end with the next `*/`.
+/// Returns the number of bytes up to and including the next `*/`, if there is one.
 fn comment_len(text: &[u8]) -> Option<usize>
     ensures within { IfSome result (λ len. len ≤ length text.now) }
     ensures ends { IfSome result (λ len. ends_comment (take len text.now) ≡ true) }
@@ -178,14 +179,14 @@ fn comment_len(text: &[u8]) -> Option<usize>
     None
 }
 
-/// The port that digits spell, if there is one of that number.
+/// Returns the port number that the digits spell, or `None` above 255.
 fn port_number(digits: &[u8]) -> Option<u8>
     ensures { result ≡ port_spelled digits.now }
 {
     let mut number: u16 = 0;
     for digit in digits {
         number = 10 * number + u16::from(digit.saturating_sub(b'0'));
-        // Further digits make it no smaller.
+        // More digits cannot make the number smaller.
         if number > 255 {
             return None;
         }
@@ -193,7 +194,7 @@ fn port_number(digits: &[u8]) -> Option<u8>
     Some(number as u8)
 }
 
-/// The piece that is this byte alone, other than white space.
+/// Returns the piece that consists of this byte alone, white space excepted.
 fn mark(byte: u8) -> Option<Piece>
     ensures { result ≡ mark_of byte }
 {
@@ -209,7 +210,7 @@ fn mark(byte: u8) -> Option<Piece>
     }
 }
 
-/// The comment that begins a text, which begins with `/`.
+/// Returns the kind and length of the comment that begins a text. The text begins with `/`.
 pub(crate) fn comment(text: &[u8]) -> Option<(Piece, usize)>
     requires some { 0 < length text.now }
     requires first { slice_index text.now 0 ≡ 47 }
@@ -230,7 +231,7 @@ pub(crate) fn comment(text: &[u8]) -> Option<(Piece, usize)>
     None
 }
 
-/// The formal that begins a text, which begins with `$`.
+/// Returns the kind and length of the parameter that begins a text. The text begins with `$`.
 fn formal(text: &[u8]) -> Option<(Piece, usize)>
     requires some { 0 < length text.now }
     requires first { slice_index text.now 0 ≡ 36 }
@@ -245,7 +246,8 @@ fn formal(text: &[u8]) -> Option<(Piece, usize)>
     Some((Piece::Formal, 1 + len))
 }
 
-/// The configuration string that begins a text, which begins with `(`.
+/// Returns the kind and length of the configuration string that begins a text. The text begins with
+/// `(`.
 fn string(text: &[u8]) -> Option<(Piece, usize)>
     requires some { 0 < length text.now }
     requires first { slice_index text.now 0 ≡ 40 }
@@ -257,7 +259,7 @@ fn string(text: &[u8]) -> Option<(Piece, usize)>
     Some((Piece::String, 1 + len))
 }
 
-/// The `::` that begins a text, which begins with `:`.
+/// Returns the kind and length of the `::` that begins a text. The text begins with `:`.
 fn double_colon(text: &[u8]) -> Option<(Piece, usize)>
     requires some { 0 < length text.now }
     requires first { slice_index text.now 0 ≡ 58 }
@@ -271,7 +273,7 @@ fn double_colon(text: &[u8]) -> Option<(Piece, usize)>
     None
 }
 
-/// The `->` that begins a text, which begins with `-`.
+/// Returns the kind and length of the `->` that begins a text. The text begins with `-`.
 fn arrow(text: &[u8]) -> Option<(Piece, usize)>
     requires some { 0 < length text.now }
     requires first { slice_index text.now 0 ≡ 45 }
@@ -285,7 +287,7 @@ fn arrow(text: &[u8]) -> Option<(Piece, usize)>
     None
 }
 
-/// The longest piece that begins a text, and its length.
+/// Returns the kind and length of the longest piece that begins a text, or `None` if none does.
 fn first_piece(text: &[u8]) -> Option<(Piece, usize)>
     requires { 0 < length text.now }
     ensures some { IfSome result (λ found. Longest text.now found.0 found.1) }
@@ -313,7 +315,7 @@ fn first_piece(text: &[u8]) -> Option<(Piece, usize)>
     }
 }
 
-/// What is wrong at a place where these bytes follow, which no piece begins.
+/// Returns the fault at offset `at`, where these bytes follow and no piece begins.
 fn piece_fault(at: usize, text: &[u8]) -> Ending
     requires some { 0 < length text.now }
     requires fits { at + length text.now < 2 ^ 64 }
@@ -330,7 +332,7 @@ fn piece_fault(at: usize, text: &[u8]) -> Ending
     Ending::Stuck(TextFault { kind, span })
 }
 
-/// The tokens of a text up to its end, or up to the first place where no piece begins.
+/// Returns the tokens of a text up to its end, or up to the first offset where no piece begins.
 pub fn scan(alloc: Global, text: &[u8]) -> Result<(Vec<Token>, Ending), AllocError>
     ensures { IfOk result (λ r. Reads 0 text.now r.0.items r.1) }
 {

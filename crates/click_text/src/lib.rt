@@ -1,4 +1,4 @@
-//! The configuration language: tokens, grammar and parser.
+//! The configuration language: lexer, grammar, parser, and the parts of configuration strings.
 #![tactic(auto)]
 
 ghost use Rattle.std.specs.Prelude.{◌≡◌, ◌<◌, ◌≤◌, length, IfOk, IfErr, OnOk};
@@ -28,17 +28,20 @@ use std::alloc::Global;
 pub use strings::string_len;
 pub use syntax::{Config, Span, TextFault};
 
-/// How many bytes a text may have.
+/// The maximum length of a configuration, in bytes.
 pub const LONGEST_TEXT: usize = 1_048_576;
 
-/// The configuration that a text spells, or its first fault.
+/// Returns the configuration that a text spells, or its first fault.
+///
+/// A text of more than 1,048,576 bytes always fails with `TooLarge`. Any other text may fail with
+/// `NoMemory`.
 pub fn parse(alloc: Global, text: &[u8]) -> Result<Config, TextFault>
-    // What is read is spelled so.
+    // The returned configuration is one that the text spells.
     ensures found { IfOk result (λ config. Spells text.now config) }
     ensures within { OnOk result (length text.now ≤ longest_text) }
-    // What is spelled so is read, unless memory runs out.
+    // A configuration that the text spells is returned, unless the call runs out of memory.
     ensures only { (config : Config) → length text.now ≤ longest_text → Spells text.now config → IsGiven result config }
-    // Which fault it is.
+    // The fault is out of memory, `TooLarge`, or the first fault of the text.
     ensures err { IfErr result (λ f. IsMemoryOr f (IsAnswered text.now f)) }
     ensures large { longest_text < length text.now → result ≡ Err too_large }
 {

@@ -1,4 +1,4 @@
-//! The grammar over a list of tokens, by recursive descent.
+//! The parser: recursive descent over a list of tokens.
 
 ghost use Rattle.std.specs.Prelude.{◌≡◌, ℕ, ◌<◌, ◌≤◌, ◌++◌, ◌∷◌, [], List, Some, length, drop, OnOk, IfOk, IfErr};
 ghost use Rattle.click_text.specs.declared.syntax.Token.{Token};
@@ -15,10 +15,10 @@ use crate::tokens::{ParseStop, Tokens};
 use click_base::sequence::Sequence;
 use std::alloc::Global;
 
-/// How many braces may be open.
+/// The maximum number of braces that may be open at once.
 pub const MOST_OPEN: usize = 32;
 
-/// The tokens that are left, and the bodies that are closed.
+/// The state of parsing: the tokens that are left, and the bodies that were closed.
 #[derive(Drop)]
 pub struct Parser<'a> {
     alloc: Global,
@@ -26,9 +26,9 @@ pub struct Parser<'a> {
     bodies: Sequence<Body>,
 }
 
-// The depth is the number of open braces.
+// In each function `depth` is the number of open braces.
 impl<'a> Parser<'a> {
-    /// Statements, up to a closing brace or the end.
+    /// Parses statements up to a closing brace or the end of the tokens.
     #[cycle(parser)]
     fn statements(&mut self, depth: usize) -> Result<Sequence<Statement>, ParseStop>
         ensures goes_on { IfOk result (λ ss. (p : Place) →
@@ -54,7 +54,7 @@ impl<'a> Parser<'a> {
         }
     }
 
-    /// A statement, with its end where it has one.
+    /// Parses one statement, including its end if it has one.
     #[cycle(parser)]
     fn statement(&mut self, depth: usize) -> Result<Statement, ParseStop>
         ensures goes_on { IfOk result (λ st. (p : Place) (ss : List Statement) →
@@ -87,7 +87,7 @@ impl<'a> Parser<'a> {
         }
     }
 
-    /// A declaration after the first of its names.
+    /// Parses the rest of a declaration, after the first of its names.
     #[cycle(parser)]
     fn declaration(&mut self, first: Span, depth: usize) -> Result<Statement, ParseStop>
         ensures goes_on { IfOk result (λ st. (p : Place) (ss : List Statement) →
@@ -103,7 +103,7 @@ impl<'a> Parser<'a> {
         Ok(Statement::Declaration(Declaration { names, class, text }))
     }
 
-    /// A definition or a synonym after its keyword.
+    /// Parses the rest of a definition or synonym, after `elementclass`.
     #[cycle(parser)]
     fn definition(&mut self, depth: usize) -> Result<Statement, ParseStop>
         ensures goes_on { IfOk result (λ st. (p : Place) (ss : List Statement) →
@@ -130,7 +130,7 @@ impl<'a> Parser<'a> {
         }
     }
 
-    /// A chain with its end.
+    /// Parses a chain, including its end.
     #[cycle(parser)]
     fn chain(&mut self, depth: usize) -> Result<Chain, ParseStop>
         ensures goes_on { IfOk result (λ c. (p : Place) (ss : List Statement) →
@@ -154,7 +154,7 @@ impl<'a> Parser<'a> {
         }
     }
 
-    /// An element.
+    /// Parses an element.
     #[cycle(parser)]
     fn element(&mut self, depth: usize) -> Result<Element, ParseStop>
         ensures goes_on { IfOk result (λ e. (cx : Context) →
@@ -168,7 +168,7 @@ impl<'a> Parser<'a> {
         Ok(Element { head, text })
     }
 
-    /// What an element begins with.
+    /// Parses the head of an element: a word, a declared name or a body.
     #[cycle(parser)]
     fn head(&mut self, depth: usize) -> Result<Head, ParseStop>
         ensures goes_on { IfOk result (λ h. (cx : Context) →
@@ -197,7 +197,7 @@ impl<'a> Parser<'a> {
         }
     }
 
-    /// A class.
+    /// Parses a class: a word or a body.
     #[cycle(parser)]
     fn class(&mut self, depth: usize) -> Result<ClassReference, ParseStop>
         ensures goes_on { IfOk result (λ c. (g : Target) →
@@ -222,7 +222,7 @@ impl<'a> Parser<'a> {
         }
     }
 
-    /// A body that begins with this brace. Its place among the bodies.
+    /// Parses a body that begins with this brace. Returns its index among the bodies.
     #[cycle(parser)]
     fn body(&mut self, brace: Span, depth: usize) -> Result<usize, ParseStop>
         requires { self.old.tokens.items.now ≡ Token.Open brace ∷ drop 1 self.old.tokens.items.now }
@@ -258,7 +258,7 @@ impl<'a> Parser<'a> {
         Ok(at)
     }
 
-    /// The fault where the parser stopped.
+    /// Returns the fault for which the parser stopped, in a text of `size` bytes with this ending.
     fn fault(&self, stop: ParseStop, size: usize, ending: Ending) -> TextFault
         ensures { (ts : List Token) → Stops stop (outcome 0 (between [] top []) ts) self.now.tokens.items.now → IsMemoryOr result (IsFaultAmong size ts ending result) }
     {
@@ -283,7 +283,7 @@ impl<'a> Parser<'a> {
     }
 }
 
-/// The configuration of a text whose tokens these are.
+/// Returns the configuration of a text with these tokens and this ending, or the first fault.
 pub fn config_of(
     alloc: Global,
     text: &[u8],

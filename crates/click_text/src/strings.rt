@@ -1,9 +1,9 @@
-//! Configuration strings: where quotes and comments stand in them.
+//! Configuration strings: their quotes and comments, and where one ends.
 
 ghost use Rattle.std.specs.Prelude.{◌≡◌, ◌<◌, ◌≤◌, ◌+◌, ◌^◌, ℕ, length, take, IfSome, IfNone, true, false};
 ghost use Rattle.click_text.specs.Strings.{mode_after, plain_after, is_outside, closes_outermost, depth_after, closes};
 
-/// What the next byte of a configuration string stands in.
+/// The part of a configuration string that the next byte belongs to.
 #[derive(Clone, Copy, Debug, PartialEq, Eq)]
 pub enum Mode {
     /// Neither a quote nor a comment.
@@ -12,24 +12,24 @@ pub enum Mode {
     Slash,
     /// After a `\` that may begin `\<..>`.
     Backslash,
-    /// In `".."`.
+    /// In a quote `".."`.
     Double,
-    /// In `".."`, after a `\`.
+    /// In a quote `".."`, after a `\`.
     Escape,
-    /// In `'..'`.
+    /// In a quote `'..'`.
     Single,
-    /// In `\<..>`.
+    /// In a quote `\<..>`.
     Angle,
-    /// In a comment up to the next LF.
+    /// In a comment that ends with the next LF.
     Line,
-    /// In a comment up to the next `*/`.
+    /// In a comment that ends with the next `*/`.
     Block,
-    /// In such a comment, after a `*`.
+    /// In a comment that ends with the next `*/`, after a `*`.
     Star,
 }
 
 impl Mode {
-    /// After a byte that is neither in a quote nor in a comment.
+    /// Returns the mode after a byte that is outside quotes and comments.
     fn after_plain(byte: u8) -> Mode
         ensures { result ≡ plain_after byte }
     {
@@ -42,7 +42,7 @@ impl Mode {
         }
     }
 
-    /// Where a byte leads.
+    /// Returns the mode after a byte.
     pub fn after(self, byte: u8) -> Mode
         ensures { result ≡ mode_after self byte }
     {
@@ -71,7 +71,7 @@ impl Mode {
         }
     }
 
-    /// The next byte stands outside quotes and comments, where it begins none.
+    /// Returns whether the next byte is outside quotes and comments, unless it begins one.
     pub fn is_outside(self) -> bool
         ensures { result ≡ is_outside self }
     {
@@ -81,14 +81,14 @@ impl Mode {
         }
     }
 
-    /// The byte closes the last open parenthesis.
+    /// Returns whether the byte closes the only open parenthesis.
     fn closes_outermost(self, depth: usize, byte: u8) -> bool
         ensures { result ≡ closes_outermost self depth byte }
     {
         self.is_outside() && byte == b')' && depth == 1
     }
 
-    /// How many parentheses are open after a byte.
+    /// Returns the number of open parentheses after a byte.
     fn depth_after(self, depth: usize, byte: u8) -> usize
         requires { depth + 1 < 2 ^ 64 }
         ensures { result ≡ depth_after self depth byte }
@@ -104,7 +104,8 @@ impl Mode {
     }
 }
 
-/// How many bytes after an opening parenthesis end with the one that closes it.
+/// Returns the number of bytes, after an opening parenthesis, up to and including the parenthesis
+/// that closes it. Returns `None` if it is not closed.
 pub fn string_len(text: &[u8]) -> Option<usize>
     ensures within { IfSome result (λ len. len ≤ length text.now) }
     ensures closed { IfSome result (λ len. closes Mode.Plain 1 (take len text.now) ≡ true) }

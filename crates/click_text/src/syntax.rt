@@ -1,4 +1,4 @@
-//! Tokens and the tree of a configuration.
+//! Tokens, and the syntax tree of a configuration.
 
 ghost use Rattle.std.specs.Prelude.{◌≡◌};
 ghost use Rattle.click_text.specs.FaultText.{kind_text};
@@ -12,7 +12,7 @@ use std::alloc::AllocError;
 use std::fmt;
 use thiserror::Error;
 
-/// The bytes of a text from `start` on, up to but without `end`. Bytes are counted from 0.
+/// A range of bytes of a text, from `start` up to but not including `end`. Offsets begin at 0.
 #[derive(Clone, Copy, Debug, PartialEq, Eq)]
 pub struct Span {
     pub start: usize,
@@ -20,7 +20,7 @@ pub struct Span {
 }
 
 impl Span {
-    /// The bytes of the text that stand there: as many of them as the text has.
+    /// Returns the bytes of the span. If the text is too short, returns those that it has.
     pub fn of<'a>(&self, text: &'a [u8]) -> &'a [u8]
         ensures { result.now ≡ bytes_at text.now self.now }
     {
@@ -28,7 +28,7 @@ impl Span {
         &rest[..self.end.saturating_sub(self.start).min(rest.len())]
     }
 
-    /// The text of a configuration string that stands there: what is between its parentheses.
+    /// Returns the text between the parentheses of a configuration string, whose span this is.
     pub fn text_of<'a>(&self, text: &'a [u8]) -> &'a [u8]
         ensures { result.now ≡ string_text text.now self.now }
     {
@@ -39,14 +39,14 @@ impl Span {
     }
 }
 
-/// A token and where it stands.
+/// A token and its span.
 #[derive(Clone, Copy, Debug, PartialEq, Eq)]
 pub enum Token {
-    /// A word that is no number and no keyword.
+    /// A word that is neither a number nor a keyword.
     Word(Span),
-    /// Digits alone: the port of that number, or none where it is above 255.
+    /// Digits only: the port number that they spell, or `None` above 255.
     Number(Option<u8>, Span),
-    /// `$` and a name.
+    /// A parameter: `$` and a name.
     Formal(Span),
     /// A configuration string with its parentheses.
     String(Span),
@@ -63,30 +63,30 @@ pub enum Token {
     Require(Span),
 }
 
-/// A port as written: its number, and where it stands with its brackets.
+/// A port as written: its number, and its span with the brackets.
 #[derive(Clone, Copy, Debug, PartialEq, Eq)]
 pub struct WrittenPort {
     pub number: u8,
     pub span: Span,
 }
 
-/// A class.
+/// A class as written: by a name or by a body.
 #[derive(Clone, Copy, Debug, PartialEq, Eq)]
 pub enum ClassReference {
-    /// A word.
+    /// The name of a class.
     Named(Span),
-    /// The body at that place of the configuration's bodies.
+    /// The index of a body among the configuration's bodies.
     Body(usize),
 }
 
-/// What an element of a chain begins with.
+/// The head of an element of a chain.
 #[derive(Clone, Copy, Debug, PartialEq, Eq)]
 pub enum Head {
-    /// A word: an element's name, or a class.
+    /// A word: the name of an element, or a class.
     Word(Span),
-    /// A name with its class.
+    /// A name, and the class that is declared for it.
     Declared(Span, ClassReference),
-    /// The body at that place of the configuration's bodies.
+    /// The index of a body among the configuration's bodies.
     Compound(usize),
 }
 
@@ -94,11 +94,12 @@ pub enum Head {
 #[derive(Clone, Copy, Debug, PartialEq, Eq)]
 pub struct Element {
     pub head: Head,
-    /// Its configuration string with the parentheses, where it has one.
+    /// The span of its configuration string with the parentheses, if it has one.
     pub text: Option<Span>,
 }
 
-/// A further element of a chain, with the ports that it is joined by. A port that is not written is 0.
+/// A further element of a chain, with the ports of the connection to it. A port that is not written
+/// is 0.
 #[derive(Clone, Copy, Debug, PartialEq, Eq)]
 pub struct Link {
     pub from: Option<WrittenPort>,
@@ -106,37 +107,37 @@ pub struct Link {
     pub element: Element,
 }
 
-/// Elements, each joined to the next.
+/// Elements, each connected to the next.
 #[derive(Drop)]
 pub struct Chain {
     pub first: Element,
     pub links: Sequence<Link>,
 }
 
-/// Several names with one class: an element of each name.
+/// A declaration of several names: an element of this class for each name.
 #[derive(Drop)]
 pub struct Declaration {
-    /// At least two.
+    /// The names, at least two.
     pub names: Sequence<Span>,
     pub class: ClassReference,
-    /// Their configuration string with the parentheses, where they have one.
+    /// The span of their configuration string with the parentheses, if they have one.
     pub text: Option<Span>,
 }
 
-/// A statement. Empty statements are not kept.
+/// A statement. Empty statements are left out.
 #[derive(Drop)]
 pub enum Statement {
     Chain(Chain),
     Declaration(Declaration),
-    /// `elementclass`: a name for the body at that place.
+    /// `elementclass` with a name for the body that has this index.
     Definition { name: Span, body: usize },
-    /// `elementclass`: a name for the class of another one.
+    /// `elementclass` with a name for a class that is named.
     Synonym { name: Span, class: Span },
-    /// `require`, with its configuration string.
+    /// `require` with its configuration string.
     Requirement { text: Option<Span> },
 }
 
-/// What stands between two braces, with them.
+/// The body of a compound: the text between two braces, including them.
 #[derive(Drop)]
 pub struct Body {
     pub span: Span,
@@ -145,7 +146,9 @@ pub struct Body {
     pub statements: Sequence<Statement>,
 }
 
-/// A whole configuration, with its text. A body stands after all bodies inside it, and is named by its place.
+/// A whole configuration: its text, its statements and its bodies.
+///
+/// A body comes after all bodies inside it, and is referred to by its index.
 #[derive(Drop)]
 pub struct Config {
     pub text: Sequence<u8>,
@@ -153,7 +156,7 @@ pub struct Config {
     pub bodies: Sequence<Body>,
 }
 
-/// What is wrong with a text. It prints as its number and its name.
+/// The kind of a fault of a text. It is printed as its number and its name.
 #[derive(Clone, Copy, Debug, Error, PartialEq, Eq)]
 #[error("{}", self.text())]
 pub enum FaultKind {
@@ -166,7 +169,7 @@ pub enum FaultKind {
     NoMemory,
 }
 
-/// A fault of a text, and where it stands. TooLarge and NoMemory stand nowhere: their span is 0 to 0.
+/// A fault of a text: its kind and its span. TooLarge and NoMemory have the span 0 to 0.
 #[derive(Clone, Copy, Debug, Error, PartialEq, Eq)]
 #[error("{kind}{place}", place = self.place())]
 pub struct TextFault {
@@ -174,7 +177,7 @@ pub struct TextFault {
     pub span: Span,
 }
 
-/// How the reading of tokens ends: after the whole text, or where no piece begins.
+/// The way in which reading tokens ends: after the whole text, or where no piece begins.
 #[derive(Clone, Copy, Debug, PartialEq, Eq)]
 pub enum Ending {
     Whole,
@@ -182,7 +185,7 @@ pub enum Ending {
 }
 
 impl Token {
-    /// Where it stands.
+    /// Returns the span of the token.
     pub(crate) fn span(&self) -> Span
         ensures { result ≡ span_of self.now }
     {
@@ -207,7 +210,7 @@ impl Token {
 }
 
 impl Ending {
-    /// The fault at the end of a text of that many bytes.
+    /// Returns the fault of a text of `size` bytes that ends too early.
     pub(crate) fn fault(&self, size: usize) -> TextFault
         ensures { result ≡ end_fault size self.now }
     {
@@ -224,7 +227,7 @@ impl Ending {
     }
 }
 
-/// How a fault's text ends: with its place in bytes, where it has one.
+/// The position part of a printed fault: its span in bytes, if it has one.
 #[derive(Clone, Copy)]
 struct Place(Option<Span>);
 
@@ -238,7 +241,7 @@ impl fmt::Display for Place {
 }
 
 impl FaultKind {
-    /// Its number and its name, as operators see them.
+    /// Returns the number and the name of the fault, as operators see them.
     pub fn text(self) -> &'static str
         ensures { result.now ≡ kind_text self }
     {
@@ -262,7 +265,7 @@ impl TextFault {
         }
     }
 
-    /// Memory ran out.
+    /// Returns the fault of running out of memory.
     pub fn no_memory() -> TextFault
         ensures { result ≡ no_memory }
     {
@@ -272,7 +275,7 @@ impl TextFault {
         }
     }
 
-    /// More bytes than a text may have.
+    /// Returns the fault of a text that is too long.
     pub fn too_large() -> TextFault
         ensures { result ≡ too_large }
     {

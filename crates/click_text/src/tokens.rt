@@ -1,4 +1,4 @@
-//! The tokens that are left, and what is read of them that holds no body.
+//! The tokens that are left, and the parsing of every part that contains no body.
 
 ghost use Rattle.std.specs.Prelude.{◌≡◌, ℕ, ◌<◌, ◌≤◌, ◌++◌, ◌∷◌, [], List, Option, length, drop, OnOk, IfOk, IfErr, MatchOption};
 ghost use Rattle.click_text.specs.declared.syntax.Span.{Span};
@@ -17,7 +17,7 @@ use crate::syntax::{Span, Token, WrittenPort};
 use click_base::sequence::Sequence;
 use std::alloc::{AllocError, Global};
 
-/// Why the parser stopped. It stands then before the token that it could not take.
+/// The reason for which the parser stopped. It stops before the token that it could not take.
 #[derive(Clone, Copy, Debug, PartialEq, Eq)]
 pub enum ParseStop {
     Memory,
@@ -35,7 +35,7 @@ impl From<AllocError> for ParseStop {
     }
 }
 
-/// The ports of an arrow.
+/// The ports that are written before and after an arrow.
 #[derive(Clone, Copy, Debug, PartialEq, Eq)]
 pub struct ArrowPorts {
     pub from: Option<WrittenPort>,
@@ -49,14 +49,14 @@ pub struct Tokens<'a> {
 }
 
 impl<'a> Tokens<'a> {
-    /// The next token, which stays.
+    /// Returns the next token without removing it.
     pub fn peek(&self) -> Option<Token>
         ensures { MatchOption result (self.now.items.now ≡ []) (λ t. self.now.items.now ≡ t ∷ drop 1 self.now.items.now) }
     {
         self.items.first().copied()
     }
 
-    /// Goes past the next token.
+    /// Removes the next token.
     pub fn skip(&mut self)
         requires { 0 < length self.old.items.now }
         ensures { self.new.items.now ≡ drop 1 self.old.items.now }
@@ -64,7 +64,8 @@ impl<'a> Tokens<'a> {
         self.items = &self.items[1..];
     }
 
-    /// The next token, where names of a declaration stand: the first of them.
+    /// Returns the next token if it is the first of several names, which means that a comma
+    /// follows.
     pub fn first_of_names(&self) -> Option<Span>
         ensures { MatchOption result ((s : Span) → Lists self.now.items.now s → ⊥) (λ s. Lists self.now.items.now s) }
     {
@@ -85,7 +86,7 @@ impl<'a> Tokens<'a> {
         Some(first)
     }
 
-    /// The names of a declaration after the first of them, with the `::` after them.
+    /// Parses the names of a declaration after the first one, and the `::` after them.
     pub fn names(&mut self, alloc: Global, first: Span) -> Result<Sequence<Span>, ParseStop>
         ensures goes_on { IfOk result (λ ns. (n : ℕ) (bs : List Body) (p : Place) (ss : List Statement) →
             outcome n (name_read bs p ss (first ∷ [])) self.old.items.now ≡ outcome n (class_wanted bs (of_names ns p ss)) self.new.items.now) }
@@ -104,7 +105,7 @@ impl<'a> Tokens<'a> {
         }
     }
 
-    /// What follows a name of a declaration: whether a further one must come, else their class must.
+    /// Parses what follows a name of a declaration: returns true for a comma, false for `::`.
     fn more_names(&mut self) -> Result<bool, ParseStop>
         ensures goes_on { IfOk result (λ more. (n : ℕ) (bs : List Body) (p : Place) (ss : List Statement) (ns : List Span) →
             outcome n (name_read bs p ss ns) self.old.items.now ≡ outcome n (past_name more bs p ss ns) self.new.items.now) }
@@ -128,7 +129,7 @@ impl<'a> Tokens<'a> {
         }
     }
 
-    /// A further name of a declaration, or the name of a definition.
+    /// Parses a word: a further name of a declaration, or the name of a definition.
     pub fn word(&mut self) -> Result<Span, ParseStop>
         ensures goes_on { IfOk result (λ s. (n : ℕ) (bs : List Body) (p : Place) (ss : List Statement) (ns : List Span) →
             outcome n (name_wanted bs p ss ns) self.old.items.now ≡ outcome n (name_read bs p ss (ns ++ s ∷ [])) self.new.items.now) }
@@ -150,7 +151,8 @@ impl<'a> Tokens<'a> {
         Ok(name)
     }
 
-    /// The parameters of a body after its open brace, with the bar after them.
+    /// Parses the parameters of a body after its opening brace, with the `|` after them, if it has
+    /// any.
     pub fn formals(&mut self, alloc: Global) -> Result<Sequence<Span>, ParseStop>
         ensures goes_on { IfOk result (λ fs. (n : ℕ) (bs : List Body) (a : Span) (u : Use) →
             outcome n (body_opened bs a u) self.old.items.now ≡ outcome n (between bs (inside a fs u) []) self.new.items.now) }
@@ -174,7 +176,7 @@ impl<'a> Tokens<'a> {
         }
     }
 
-    /// A parameter.
+    /// Parses a parameter.
     fn formal(&mut self) -> Result<Span, ParseStop>
         ensures goes_on { IfOk result (λ s. (n : ℕ) (bs : List Body) (a : Span) (u : Use) (fs : List Span) →
             outcome n (formal_wanted bs a u fs) self.old.items.now ≡ outcome n (formal_read bs a u (fs ++ s ∷ [])) self.new.items.now) }
@@ -192,7 +194,7 @@ impl<'a> Tokens<'a> {
         Ok(formal)
     }
 
-    /// What follows a parameter: whether a further one must come, else the bar stood there.
+    /// Parses what follows a parameter: returns true for a comma, false for `|`.
     fn more_formals(&mut self) -> Result<bool, ParseStop>
         ensures goes_on { IfOk result (λ more. (n : ℕ) (bs : List Body) (a : Span) (u : Use) (fs : List Span) →
             outcome n (formal_read bs a u fs) self.old.items.now ≡ outcome n (past_formal more bs a u fs) self.new.items.now) }
@@ -216,7 +218,7 @@ impl<'a> Tokens<'a> {
         }
     }
 
-    /// The end of a statement that isn't a chain.
+    /// Parses the end of a statement that is not a chain.
     pub fn end(&mut self) -> Result<(), ParseStop>
         ensures goes_on { OnOk result ((n : ℕ) (bs : List Body) (p : Place) (ss : List Statement) (st : Statement) →
             outcome n (ending bs p ss st) self.old.items.now ≡ outcome n (between bs p (ss ++ st ∷ [])) self.new.items.now) }
@@ -237,7 +239,7 @@ impl<'a> Tokens<'a> {
         }
     }
 
-    /// What follows an element: an arrow with its ports, or the end of the chain.
+    /// Parses what follows an element: an arrow with its ports, or the end of the chain.
     pub fn next_arrow(&mut self) -> Result<Option<ArrowPorts>, ParseStop>
         ensures goes_on { IfOk result (λ arrow_ports. (n : ℕ) (bs : List Body) (p : Place) (ss : List Statement) (f : Element) (ls : List Link) →
             outcome n (after bs p ss f ls) self.old.items.now ≡ outcome n (past_element arrow_ports bs p ss f ls) self.new.items.now) }
@@ -261,7 +263,7 @@ impl<'a> Tokens<'a> {
         }
     }
 
-    /// An arrow with its ports.
+    /// Parses an arrow with its ports.
     fn arrow_ports(&mut self) -> Result<ArrowPorts, ParseStop>
         ensures goes_on { IfOk result (λ arrow_ports. (n : ℕ) (bs : List Body) (p : Place) (ss : List Statement) (f : Element) (ls : List Link) →
             outcome n (port_wanted bs p ss f ls out) self.old.items.now ≡ outcome n (element_wanted bs (linked p ss f ls arrow_ports.from arrow_ports.to)) self.new.items.now) }
@@ -275,7 +277,7 @@ impl<'a> Tokens<'a> {
         Ok(ArrowPorts { from, to })
     }
 
-    /// An arrow.
+    /// Parses an arrow.
     fn arrow(&mut self) -> Result<(), ParseStop>
         ensures goes_on { OnOk result ((n : ℕ) (bs : List Body) (p : Place) (ss : List Statement) (f : Element) (ls : List Link) (from : Option WrittenPort) →
             outcome n (arrow_wanted bs p ss f ls from) self.old.items.now ≡ outcome n (port_wanted bs p ss f ls (into from)) self.new.items.now) }
@@ -293,7 +295,7 @@ impl<'a> Tokens<'a> {
         Ok(())
     }
 
-    /// A port in brackets, or none.
+    /// Parses a port in brackets, if there is one.
     fn port(&mut self) -> Result<Option<WrittenPort>, ParseStop>
         ensures goes_on { IfOk result (λ q. (n : ℕ) (bs : List Body) (p : Place) (ss : List Statement) (f : Element) (ls : List Link) (side : Side) →
             outcome n (port_wanted bs p ss f ls side) self.old.items.now ≡ outcome n (ported bs p ss f ls side q) self.new.items.now) }
@@ -323,7 +325,7 @@ impl<'a> Tokens<'a> {
         Ok(Some(WrittenPort { number, span }))
     }
 
-    /// The number of a port.
+    /// Parses the number of a port.
     fn number(&mut self) -> Result<u8, ParseStop>
         ensures goes_on { IfOk result (λ m. (n : ℕ) (bs : List Body) (p : Place) (ss : List Statement) (f : Element) (ls : List Link) (side : Side) (a : Span) →
             outcome n (number_wanted bs p ss f ls side a) self.old.items.now ≡ outcome n (close_wanted bs p ss f ls side a m) self.new.items.now) }
@@ -344,7 +346,7 @@ impl<'a> Tokens<'a> {
         Ok(number)
     }
 
-    /// Whether a name is declared: goes past the `::` where one stands after it.
+    /// Removes a `::` if it is next. Returns whether it was.
     pub fn double_colon(&mut self) -> bool
         ensures goes_on { (n : ℕ) (bs : List Body) (cx : Context) (s : Span) →
             outcome n (word_read bs cx s) self.old.items.now ≡ outcome n (past_word result bs cx s) self.new.items.now }
@@ -360,7 +362,9 @@ impl<'a> Tokens<'a> {
         true
     }
 
-    /// A configuration string, or none: after a head, after the class of names, or after `require`.
+    /// Parses a configuration string, if there is one.
+    ///
+    /// It may follow a head, the class of several names, or `require`.
     pub fn string(&mut self) -> Option<Span>
         ensures of_head { (n : ℕ) (bs : List Body) (cx : Context) (h : Head) →
             outcome n (head_read bs cx h) self.old.items.now ≡ outcome n (element_read bs cx (element h result)) self.new.items.now }

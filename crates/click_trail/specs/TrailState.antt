@@ -1,7 +1,8 @@
--- Trails as contracts see them.
+-- A trail as contracts see it.
 use Rattle.std.specs.Prelude.{Bool, List}
 
--- whether it keeps its items, whether one more can be kept without memory, and all that were added, in order
+-- whether it stores its items, whether one more can be stored without allocating, and all items
+-- that were added, in order
 pub record TrailState (T : Type 0) : Type 0 where
   pub keeps : Bool
   pub ready : Bool

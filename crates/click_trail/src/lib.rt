@@ -1,4 +1,4 @@
-//! A list that grows, of which proofs know each item, and which keeps its items or none of them.
+//! A list that only grows. Its items are stored at run time, or they are ghost state.
 #![tactic(auto)]
 
 mod trail;

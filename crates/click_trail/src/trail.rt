@@ -1,4 +1,4 @@
-//! The list.
+//! The trail: a list that stores its items or only has them as ghost state.
 
 ghost use Rattle.std.specs.Prelude.{◌≡◌, ◌++◌, ◌∷◌, [], true, false, OnOk};
 
@@ -6,8 +6,11 @@ use http_server::Log;
 use std::alloc::{AllocError, Global};
 use std::marker::Model;
 
-/// A list that keeps its items, or none of them. Proofs know each item that was added, in either case: there is one list of them all, which only grows. At run time
-/// a trail that keeps none is a few bytes, and an item more takes no memory.
+/// A list that only grows. Its items are stored at run time if `keeps` is true, and are ghost state
+/// only if it is false.
+///
+/// In both cases contracts see every item that was added. A trail that does not store its items is
+/// a few bytes at run time, and adding an item does not allocate.
 #[derive(Drop)]
 pub struct Trail<T> {
     log: Log<T, ()>,
@@ -27,7 +30,7 @@ impl<T> Model for Trail<T> {
 }
 
 impl<T> Trail<T> {
-    /// A trail without an item, which keeps those that come, or none.
+    /// Makes a trail without items, which stores its items or does not.
     pub fn new(alloc: Global, keeps: bool) -> Trail<T>
         ensures { (result.keeps ≡ keeps) × (result.items ≡ []) }
     {
@@ -38,14 +41,14 @@ impl<T> Trail<T> {
         }
     }
 
-    /// Whether it keeps its items.
+    /// Returns whether the items are stored.
     pub fn keeps(&self) -> bool
         ensures { result ≡ self.now.keeps }
     {
         self.keeps
     }
 
-    /// The items, where they are kept; else none.
+    /// Returns the items if they are stored, otherwise an empty slice.
     pub fn as_slice(&self) -> &[T]
         ensures kept { self.now.keeps ≡ true → result.now ≡ self.now.items }
         ensures none { self.now.keeps ≡ false → result.now ≡ [] }
@@ -53,7 +56,7 @@ impl<T> Trail<T> {
         self.kept.as_slice()
     }
 
-    /// Takes the memory for one item more, of a trail that keeps its items. `Err`: memory ran out.
+    /// Reserves room for one more item in a trail that stores its items. Fails with out of memory.
     pub fn reserve(&mut self) -> Result<(), AllocError>
         requires { self.old.keeps ≡ true }
         ensures same { (self.new.keeps ≡ self.old.keeps) × (self.new.items ≡ self.old.items) }
@@ -62,7 +65,7 @@ impl<T> Trail<T> {
         self.kept.reserve(1)
     }
 
-    /// One item more, of a trail that keeps its items. It takes no memory: there is room for it.
+    /// Appends an item to a trail that stores its items. Never allocates: room for it was reserved.
     #[inline(always)]
     pub fn add(&mut self, item: T)
         requires keeps { self.old.keeps ≡ true }
@@ -74,7 +77,7 @@ impl<T> Trail<T> {
         self.kept.push_reserved(item);
     }
 
-    /// One item more, of a trail that keeps none. It does nothing at run time.
+    /// Appends an item to a trail that does not store its items. Does nothing at run time.
     #[inline(always)]
     pub fn note(&mut self, item: &T)
         requires { self.old.keeps ≡ false }

@@ -1,4 +1,4 @@
--- What holds of beginnings and of the last of a list.
+-- Lemmas about prefixes and about the last item of a list.
 use Rattle.std.proofs.Common.{◌≡◌, ℕ, List, [], ◌∷◌, ◌++◌, refl, ap, sym, ◌∙◌, append_assoc, Some, None}
 use Rattle.click_views.specs.Log.{LogEntry, installs, IsClosed}
 use Rattle.click_views.specs.Showing.{BeginsWith, IsLast}

@@ -1,4 +1,4 @@
-//! Where the installs are kept, each for as long as the board lasts, where they are kept.
+//! The board that stores installs, each for as long as the board exists, or none.
 
 ghost use Rattle.std.specs.Prelude.{◌≡◌, ◌∷◌, IfOk, IfSome};
 ghost use Rattle.boxcar.specs.Table.{Shows};
@@ -13,7 +13,7 @@ use std::alloc::{AllocError, Global};
 use std::marker::Model;
 use std::sync::Wait;
 
-/// An install has no rule.
+/// The rule of a slot for an install: none.
 pub struct AnyInstall;
 
 impl<I> SlotRule<I> for AnyInstall {
@@ -22,7 +22,8 @@ impl<I> SlotRule<I> for AnyInstall {
     ghost holds = { λ _ _. ⊤ };
 }
 
-/// What is told in a cell is of the cell's install and of the board's book.
+/// The rule of a slot for a position in the log. The position is of the cell's install, and of the
+/// log of the board.
 pub struct OfCell;
 
 impl<I> SlotRule<LogPosition<I>> for OfCell {
@@ -32,14 +33,14 @@ impl<I> SlotRule<LogPosition<I>> for OfCell {
     ghost holds = { λ tag told. tag ≡ told.slot ∷ numbers told.book };
 }
 
-/// An install, and what is told of it once it stands in the log.
+/// An install, and its position in the log once it was added to the log.
 #[derive(Drop)]
 pub struct Cell<I> {
     install: OnceSlot<I, AnyInstall>,
     told: OnceSlot<LogPosition<I>, OfCell>,
 }
 
-/// The cells are of the book that the board's tag names.
+/// The rule of the cells: they belong to the log that the tag of the board names.
 pub struct OfBook;
 
 impl<I> Keeps<Cell<I>> for OfBook {
@@ -48,6 +49,7 @@ impl<I> Keeps<Cell<I>> for OfBook {
     ghost holds = { λ tag _ cell. cell.told.tag ≡ cell.install.id ∷ tag };
 }
 
+/// The tag of a board that stores the installs of this log.
 struct ByBook;
 
 impl<I> Names<SeenLog<I>> for ByBook {
@@ -56,6 +58,7 @@ impl<I> Names<SeenLog<I>> for ByBook {
     ghost numbers = { λ seen. numbers seen.book };
 }
 
+/// The tag of a board that stores no installs of this log.
 struct ByBookAlone;
 
 impl<I> Names<SeenLog<I>> for ByBookAlone {
@@ -65,7 +68,7 @@ impl<I> Names<SeenLog<I>> for ByBookAlone {
     ghost numbers = { λ seen. tag_of false seen.book };
 }
 
-/// The tag of a board that keeps the installs of this log, or none.
+/// Returns the tag of a board that stores the installs of this log, or none.
 fn tag_for<I>(seen: &SeenLog<I>, keeps: bool) -> Tag
     ensures { result.numbers ≡ tag_of keeps seen.now.book }
 {
@@ -76,12 +79,14 @@ fn tag_for<I>(seen: &SeenLog<I>, keeps: bool) -> Tag
     }
 }
 
+/// The slot of an install, with the log, by which a cell is named.
 #[derive(Drop)]
 struct CellName<'a, I> {
     slot: &'a OnceSlot<I, AnyInstall>,
     seen: &'a SeenLog<I>,
 }
 
+/// The tag of a cell of this name.
 struct ByCell;
 
 impl<'a, I> Names<CellName<'a, I>> for ByCell {
@@ -108,7 +113,7 @@ impl<I> Model for Board<I> {
 }
 
 impl<I: Drop> Board<I> {
-    /// An empty board, for the installs of this log or for none.
+    /// Creates an empty board, for the installs of this log or for none. Fails with out of memory.
     pub fn new(alloc: Global, seen: &SeenLog<I>, keeps: bool) -> Result<Board<I>, AllocError>
         ensures { IfOk result (λ b. b.tag ≡ tag_of keeps seen.now.book) }
     {
@@ -117,7 +122,8 @@ impl<I: Drop> Board<I> {
         })
     }
 
-    /// Keeps an install, of which nothing is told yet.
+    /// Stores an install, whose position in the log is not recorded yet. Fails with out of memory.
+    /// May block.
     pub fn keep<R: Wait>(
         &self,
         rt: &R,
@@ -148,7 +154,7 @@ impl<I: Drop> Board<I> {
         }
     }
 
-    /// Tells of a cell's install. It takes no memory, and waits for nobody.
+    /// Records the position in the log of a cell's install. Never allocates and never blocks.
     pub fn tell(&self, mark: &Mark<I>)
         requires shown { Shows self.now mark.now.cell }
         requires book { self.now.tag ≡ numbers mark.now.told.book }
@@ -161,7 +167,7 @@ impl<I: Drop> Board<I> {
 }
 
 impl<I> Board<I> {
-    /// The install of this cell, if it was told of.
+    /// Returns the mark of the install in this cell, if its position is recorded.
     pub fn mark_at(&self, index: usize) -> Option<Mark<I>>
         ensures shown { IfSome result (λ m. Shows self.now m.cell) }
         ensures book { IfSome result (λ m. self.now.tag ≡ numbers m.told.book) }
@@ -172,7 +178,7 @@ impl<I> Board<I> {
         Some(Mark { told, cell })
     }
 
-    /// The install of a cell.
+    /// Borrows the install of a cell.
     pub fn install<'a>(
         &'a self,
         cell: &Pushed<Cell<I>, Global, OfBook>,

@@ -1,4 +1,4 @@
-//! What tells the views of the latest install, by `left_right`.
+//! The install signal, which announces the newest install to views, by `left_right`.
 
 ghost use Rattle.std.specs.Prelude.{◌≡◌, ◌≤◌};
 
@@ -7,7 +7,7 @@ use left_right::{Absorb, ReadHandle, WriteHandle};
 use std::alloc::{AllocError, Global};
 use std::sync::{Mutex, Wait};
 
-/// The index of a cell.
+/// The index of a board's cell.
 #[derive(Clone, Copy, Drop)]
 pub struct Latest {
     pub index: usize,
@@ -28,14 +28,17 @@ impl Absorb<usize> for Latest {
     }
 }
 
-/// What rings once an install is published. It knows nothing of the installs, so it lies beside the publisher, under a lock of its own.
+/// The signal that announces each new install to the views that listen to it.
+///
+/// It knows nothing of installs except the index of a cell. It is stored next to the publisher,
+/// behind a lock of its own.
 #[derive(Drop)]
 pub struct InstallSignal<R: Wait + Drop> {
     writer: Mutex<WriteHandle<Latest, usize, R>>,
 }
 
 impl<R: Wait + Drop> InstallSignal<R> {
-    /// A bell for up to so many views, 16 at most. `Err`: memory ran out.
+    /// Opens a signal for up to `views` views (0 to 16). Fails with out of memory.
     pub fn open(rt: R, alloc: Global, views: usize) -> Result<InstallSignal<R>, AllocError>
         requires { views ≤ 16 }
     {
@@ -46,8 +49,11 @@ impl<R: Wait + Drop> InstallSignal<R> {
         })
     }
 
-    /// Tells the views of what the notice tells, if that is kept. Where memory runs out it does not ring, and they hear of it at the next ring. It may wait for a view that is
-    /// just looking.
+    /// Announces the last install of the notice to the views, if installs are stored. May block
+    /// while a view reads the signal.
+    ///
+    /// If this is out of memory, nothing is announced now, and the views learn of the install with
+    /// the next signal.
     pub fn signal<I, S: Wait>(&self, rt: &S, notice: &Notice<I>) {
         let Some(mark) = &notice.mark else {
             return;
@@ -58,7 +64,8 @@ impl<R: Wait + Drop> InstallSignal<R> {
         }
     }
 
-    /// What a view hears by. `Err`: memory ran out, or the bell has as many listeners as it was opened for.
+    /// Returns a handle by which one view listens. Fails with out of memory, or if as many views
+    /// listen as the signal was opened for.
     pub fn listener<S: Wait>(&self, rt: &S) -> Result<ReadHandle<Latest>, AllocError> {
         self.writer.lock(rt).handle()
     }

@@ -1,8 +1,10 @@
-//! The installs of a desk, which one end publishes and others see, waiting for nobody.
+//! Installs of a desk: one end publishes them, and views show them without blocking.
 //!
-//! A [`Publisher`] adds installs to a log, and each [`View`] shows the last of those that it knows of. A [`Notice`] says how far the log went, so who was told
-//! something can tell a view, which then shows that or something later. A [`InstallSignal`] tells the views that listen which install is the newest; nothing is promised
-//! of what was only rung. Once the desk is closed, [`ClosedPublisher`] has the whole list, of which each view showed a beginning.
+//! A [`Publisher`] adds installs to a log, and each [`View`] shows the last install that it knows
+//! of. A [`Notice`] proves how many installs were published before it was made. A view that learns
+//! it shows the last of them or a later one. An [`InstallSignal`] announces the newest install to
+//! the views that listen to it, and carries no guarantee. When the desk is closed,
+//! [`ClosedPublisher`] has the whole list, and what each view showed is a prefix of it.
 #![tactic(auto)]
 
 mod board;

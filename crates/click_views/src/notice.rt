@@ -1,15 +1,16 @@
-//! What the publishing end tells.
+//! Notices: tokens that prove what was published.
 
 use crate::log::SeenLog;
 use crate::mark::{Mark, again};
 use crate::origin::Origin;
 use std::marker::Model;
 
-/// How far the installs of a desk go. It has no install in it, and making one takes no memory.
+/// A token that proves which installs of a desk were published before it was made. It contains no
+/// install, and making one allocates nothing.
 #[derive(Drop)]
 pub struct Notice<I> {
     pub(crate) seen: SeenLog<I>,
-    /// Where the last of them is kept, if they are kept.
+    /// The mark of the last of these installs, if installs are stored.
     pub(crate) mark: Option<Mark<I>>,
     pub(crate) of: Origin<I>,
 }
@@ -30,7 +31,7 @@ impl<I> Model for Notice<I> {
 impl<I> Notice<I> {
     ghost use Rattle.std.specs.Prelude.{◌≡◌};
 
-    /// A copy. It takes no memory.
+    /// Returns a copy. Never allocates.
     pub fn again(&self) -> Notice<I>
         ensures { result ≡ self.now }
     {

@@ -1,4 +1,4 @@
-//! The end that publishes.
+//! The publisher: the end that publishes installs.
 
 ghost use Rattle.std.specs.Prelude.{◌≡◌, ◌++◌, ◌∷◌, [], Some, IfOk, MatchResult, length};
 ghost use Rattle.click_views.specs.Log.{EndsIn};
@@ -16,12 +16,12 @@ use std::alloc::{AllocError, Global};
 use std::marker::Model;
 use std::sync::{Arc, Wait};
 
-/// Who publishes the installs of a desk.
+/// The end that publishes the installs of a desk.
 #[derive(Drop)]
 pub struct Publisher<I: Drop> {
     board: Arc<Board<I>, Global>,
     end: LogEnd<I>,
-    /// Where the last install is kept, if they are kept.
+    /// The mark of the last install, if installs are stored.
     mark: Option<Mark<I>>,
     origin: Origin<I>,
 }
@@ -40,7 +40,7 @@ impl<I: Drop> Model for Publisher<I> {
     ghost invariant = { λ p. IsPlaced (arc_value p.board) p.mark p.end × (p.origin ≡ arc_value p.board) };
 }
 
-/// Keeps the first install, if they are kept.
+/// Stores the first install on the board, if `keeps` is set. Fails with out of memory.
 fn first_mark<I: Drop, R: Wait>(
     rt: &R,
     board: &Board<I>,
@@ -65,7 +65,10 @@ fn first_mark<I: Drop, R: Wait>(
 }
 
 impl<I: Drop> Publisher<I> {
-    /// Publishes the first install. Where it `keeps` what it publishes there may be views; else nothing that is published stays in memory. `Err`: memory ran out.
+    /// Opens a publisher and publishes the first install. Fails with out of memory.
+    ///
+    /// If `keeps` is set, it stores what it publishes, and there may be views. Otherwise nothing
+    /// that is published stays in memory.
     pub fn open<R: Wait>(
         rt: &R,
         alloc: Global,
@@ -93,7 +96,10 @@ impl<I: Drop> Publisher<I> {
         })
     }
 
-    /// Publishes an install. All memory is taken first: where it runs out nothing is published. Where installs are not kept it takes none, and lets the install go.
+    /// Publishes an install. Fails with out of memory, and then publishes nothing.
+    ///
+    /// All memory is reserved before it is published. If installs are not stored, this allocates
+    /// nothing, and the install is dropped.
     pub fn publish<R: Wait>(&mut self, rt: &R, install: I) -> Result<(), AllocError>
         ensures board { self.new.board ≡ self.old.board }
         ensures list { MatchResult result (λ _. self.new.list ≡ self.old.list ++ install ∷ []) (λ _. self.new.list ≡ self.old.list) }
@@ -107,7 +113,7 @@ impl<I: Drop> Publisher<I> {
             return Err(AllocError);
         }
         let (cell, written) = self.board.keep(rt, self.end.seen(), install)?;
-        // From here on nothing fails.
+        // Nothing fails from here on.
         self.end.add(self.board.install(&cell, &written));
         let mark = Mark {
             told: LogPosition::new(self.end.seen(), count + 1, written),
@@ -118,14 +124,14 @@ impl<I: Drop> Publisher<I> {
         Ok(())
     }
 
-    /// Which desk's installs they are.
+    /// Returns the identity of the desk's board.
     pub fn origin(&self) -> Origin<I>
         ensures { result ≡ self.now.board }
     {
         self.origin.again()
     }
 
-    /// What was published so far. It takes no memory and waits for nobody.
+    /// Returns a notice of what was published so far. Never allocates and never blocks.
     pub fn notice(&self) -> Notice<I>
         ensures { result ≡ self.now }
     {
@@ -136,8 +142,8 @@ impl<I: Drop> Publisher<I> {
         }
     }
 
-    /// A view, which shows what was published so far. It hears no bell yet. It is refused only where installs are not kept, and where the board has
-    /// as many views as it can count.
+    /// Returns a view that shows what was published so far, and does not listen to a signal yet.
+    /// Fails if installs are not stored, or if the board cannot count one more view.
     pub fn view(&self) -> Result<View<I>, AllocError>
         ensures { IfOk result (λ v. v ≡ self.now) }
     {
@@ -152,7 +158,7 @@ impl<I: Drop> Publisher<I> {
         })
     }
 
-    /// Publishes nothing more.
+    /// Ends publishing.
     pub fn close(self) -> ClosedPublisher<I>
         ensures { result ≡ self }
     {

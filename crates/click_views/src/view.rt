@@ -1,4 +1,4 @@
-//! Who sees the installs, and waits for nobody.
+//! Views: handles that show the newest install they know of, without blocking.
 
 ghost use Rattle.std.specs.Prelude.{◌≡◌};
 ghost use Rattle.boxcar.specs.Table.{Shows};
@@ -15,13 +15,14 @@ use std::alloc::Global;
 use std::marker::Model;
 use std::sync::Arc;
 
-/// Who sees the installs of a desk. It shows the last of those that it knows of, and never one that is older than what it showed before.
+/// A handle that shows the installs of a desk. It shows the last one that it knows of, and never an
+/// older one than before.
 #[derive(Drop)]
 pub struct View<I: Drop> {
     pub(crate) board: Arc<Board<I>, Global>,
     pub(crate) mark: Mark<I>,
     pub(crate) origin: Origin<I>,
-    /// What it hears the bell by, if it does.
+    /// What it listens to the install signal with, if it does.
     pub(crate) reader: Option<ReadHandle<Latest>>,
 }
 
@@ -39,7 +40,7 @@ impl<I: Drop> Model for View<I> {
     ghost invariant = { λ v. Shows (arc_value v.board) v.mark.cell × ((arc_value v.board).tag ≡ numbers v.mark.told.book) × (v.origin ≡ arc_value v.board) };
 }
 
-/// The cell that the bell told of last, where one is heard.
+/// Returns the index of the cell that the signal announced last, if the view listens to one.
 fn latest_index(reader: &mut Option<ReadHandle<Latest>>) -> Option<usize> {
     match reader {
         Some(reader) => match reader.enter() {
@@ -51,7 +52,7 @@ fn latest_index(reader: &mut Option<ReadHandle<Latest>>) -> Option<usize> {
 }
 
 impl<I: Drop> View<I> {
-    /// Shows this install, if it is a later one.
+    /// Moves on to this install, if it is a later one.
     fn advance(&mut self, mark: &Mark<I>)
         requires shown { Shows self.old.board mark.now.cell }
         requires book { self.old.board.tag ≡ numbers mark.now.told.book }
@@ -66,8 +67,9 @@ impl<I: Drop> View<I> {
         }
     }
 
-    /// Shows all that the notice tells of, which has to be of the same desk. It takes no memory, waits for nobody and cannot be refused; an older notice changes
-    /// nothing.
+    /// Moves on to the installs that the notice covers, if it does not know them yet. The notice
+    /// must be of the same desk. An older notice changes nothing. Never allocates, never blocks and
+    /// never fails.
     pub fn learn(&mut self, notice: &Notice<I>)
         requires { notice.now.board ≡ self.old.board }
         ensures board { self.new.board ≡ self.old.board }
@@ -77,19 +79,20 @@ impl<I: Drop> View<I> {
         let _number = self.mark.told.number();
         match &notice.mark {
             Some(mark) => self.advance(mark),
-            // What is told of a list that is not kept is of no list that has views.
+            // A list that has views is stored, so each notice of it has a mark.
             None => unreachable!(),
         }
     }
 
-    /// From now on it hears the bell that the handle is of. What it shows stays.
+    /// Listens to the signal of this handle from now on. What the view shows is unchanged.
     pub fn listen(&mut self, reader: ReadHandle<Latest>)
         ensures { self.new ≡ self.old }
     {
         self.reader = Some(reader);
     }
 
-    /// Shows what the bell told of last, where it hears one and that is later. It takes no memory and waits for nobody.
+    /// Moves on to the install that the signal announced last, if it is a later one. Does nothing
+    /// if the view listens to no signal. Never allocates and never blocks.
     pub fn refresh(&mut self)
         ensures board { self.new.board ≡ self.old.board }
         ensures later { BeginsWith self.new.list self.old.list }
@@ -102,7 +105,8 @@ impl<I: Drop> View<I> {
         }
     }
 
-    /// What it shows, to be told to another view of the desk. It takes no memory.
+    /// Returns a notice of what the view shows, which other views of the desk can learn. Never
+    /// allocates.
     pub fn notice(&self) -> Notice<I>
         ensures { result ≡ self.now }
     {
@@ -113,7 +117,7 @@ impl<I: Drop> View<I> {
         }
     }
 
-    /// The last install that it shows.
+    /// Returns the last install that the view shows.
     pub fn install(&self) -> &I
         ensures { IsLast self.now.list result.now }
     {

@@ -1,4 +1,4 @@
--- What a view shows that was told all that the seats of a closed desk were told.
+-- What a view shows that has learned the notices of all seats of a closed desk.
 use Rattle.std.proofs.Common.{◌≡◌, ℕ, zero, suc, ◌+◌, ◌<◌, ◌==◌, slice_index_or, ◌⊎◌, inl, inr, Bool, true, false, cond, List, [], ◌∷◌, ◌++◌, length, count_by, Some, refl, sym, ap, ◌∙◌, subst, append-nil, append_assoc, length-append, arith}
 use Rattle.std.proofs.lemmas.Bool.Decides.{nat_tests}
 use Rattle.std.specs.List.{All}
@@ -12,7 +12,7 @@ use Rattle.click_desk.specs.SeatStates.{DeskName, SeatState, IsSeat}
 use Rattle.click_desk.specs.declared.entry.Entry.{Entry}
 use Rattle.click_desk.proofs.Histories.{entries_append}
 
--- two lists that begin with one another are one
+-- Two lists, each of which is a prefix of the other, are equal.
 same-list : {T : Type 0} (xs ys : List T) → BeginsWith xs ys → BeginsWith ys xs → xs ≡ ys
 same-list [] [] p q = refl
 same-list [] (y ∷ ys) p q = absurd (let e = ap length p.1 in omega (arith, length-append (y ∷ ys) p.0))
@@ -29,7 +29,7 @@ which : (b : Bool) (c : ℕ) → cond b 1 0 + c ≡ 1 → (b ≡ true) ⊎ (c �
 which true c e = inl refl
 which false c e = inr (omega (arith, e))
 
--- a seat of this number, of which holds what holds of all
+-- There is a seat with this number, and what holds for all seats holds for it.
 pub seat-of : (P : SeatState → Type 0) (n : ℕ) (seats : List SeatState) → All P seats → count_by (λ (s : SeatState). s.number == n) seats ≡ 1 → (s : SeatState) × (s.number ≡ n) × P s
 seat-of P n [] all one = absurd (omega (arith, one))
 seat-of P n (s ∷ ss) all one =
@@ -38,12 +38,13 @@ seat-of P n (s ∷ ss) all one =
       | inr rest ↦ seat-of P n ss (All-tail P s ss all) rest
     ]
 
--- a history that is not empty ends in an entry
+-- A history that is not empty has a last entry.
 ends-in : (e : Entry) (es : List Entry) → (before : List Entry) × (last : Entry) × (e ∷ es ≡ before ++ last ∷ [])
 ends-in e [] = ([], e, refl)
 ends-in e (f ∷ es) = let r = ends-in f es in (e ∷ r.0, r.1, ap (λ l. e ∷ l) r.2)
 
--- who has seen all of its own entries, one of which is the last of the history, has seen the whole history
+-- A seat that has seen all of its own entries, among them the last entry of the history, has seen
+-- the whole history.
 whole : (history seen more before : List Entry) (last : Entry) (n : ℕ) → history ≡ seen ++ more → history ≡ before ++ last ∷ [] → last.seat ≡ n
     → entries history n ≡ entries seen n → seen ≡ history
 whole history seen [] before last n cut ends own same = sym (cut ∙ append-nil seen)
@@ -69,14 +70,14 @@ whole history seen (m ∷ ms) before last n cut ends own same =
         let more : entries (e ∷ []) n ≡ (e.call, e.reply) ∷ [] = rw same refl in
         ap length more
 
--- what is so of a seat that a view was told by
+-- What holds for a seat whose notice a view has learned.
 record IsTold (desk : DeskName) (history : List Entry) (list : List (List ℕ)) (s : SeatState) : Type 0 where
   of : s.desk ≡ desk
   entered : IsEntered history s
   sound : IsSeat s
   told : BeginsWith list (installs s.desk.options.opening s.seen)
 
--- some seat has seen the whole history
+-- Some seat has seen the whole history.
 seen-whole : (desk : DeskName) (history : List Entry) (list : List (List ℕ)) (seats : List SeatState) → 0 < length seats → All (IsTold desk history list) seats
     → All (λ e. count_by (λ (s : SeatState). s.number == e.seat) seats ≡ 1) history → (s : SeatState) × (s.seen ≡ history) × IsTold desk history list s
 seen-whole desk history list [] some all numbered = absurd (omega (arith, some))
@@ -99,7 +100,8 @@ seen-whole desk (e ∷ es) list (s ∷ ss) some all numbered =
     let same : entries (e ∷ es) t.number ≡ entries t.seen t.number = told.entered.0 ∙ sym told.sound.own in
     (t, whole (e ∷ es) t.seen told.entered.1.0 r.0 last t.number told.entered.1.1 r.2 (sym found.1) same, told)
 
--- a view that learned what each seat was told, and that met the book, shows all that was installed
+-- A view that has learned the notice of each seat, and that the book has met, shows all installed
+-- configurations.
 pub shows-all : (desk : DeskName) (seats : List SeatState) (book : BookState) (list : List (List ℕ)) → 0 < length seats → All (λ s. s.desk ≡ desk) seats → Closes desk seats book
     → All (λ s. IsSeat s × BeginsWith list (installs s.desk.options.opening s.seen)) seats → BeginsWith (installs book.opening book.entries) list
     → list ≡ installs book.opening book.entries
@@ -114,7 +116,7 @@ shows-all desk seats book list some of closes told met =
     let is : installs s.desk.options.opening s.seen ≡ installs book.opening book.entries = ap (λ o. installs o s.seen) opening ∙ ap (installs book.opening) found.1 in
     same-list list (installs book.opening book.entries) (subst (λ l. BeginsWith list l) is t.told) met
 
--- what stands at a place of a list is that whatever stands beyond it
+-- The item at an index inside a list does not depend on the default for an index outside.
 pub same-at : (xs : List SeatState) (k : ℕ) (d e : SeatState) → k < length xs → slice_index_or xs k d ≡ slice_index_or xs k e
 same-at [] k d e below = absurd (omega (arith, below))
 same-at (x ∷ xs) zero d e below = refl

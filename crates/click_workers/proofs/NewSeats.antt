@@ -1,4 +1,4 @@
--- One session or driver more.
+-- The outcome of one more session slot or driver.
 use Rattle.std.proofs.Common.{◌≡◌, ℕ, zero, suc, ◌+◌, ◌≤◌, ◌-◌, min, Bool, List, [], ◌∷◌, ◌++◌, length, map, Option, Some, None, IfSome, MatchOption, refl, sym, ap, ◌∙◌, subst, append_assoc, append-nil, length-append, arith}
 use Rattle.std.specs.Prelude.{option_to_list}
 use Rattle.std.specs.List.{All}
@@ -25,20 +25,20 @@ snoc-inj (a ∷ xs) (b ∷ ys) x y e =
     let k = snoc-inj xs ys x y tail in
     (ap (λ z. z ∷ xs) head ∙ ap (λ l. b ∷ l) k.0, k.1)
 
--- the last of the new seats, and those before it
+-- The last of the new seats, and those before it.
 pub last-new : (desk : DeskName) (feeds : List FeedName) (m n : ℕ) (seats front : List SeatState) (x : SeatState) → seats ≡ seats_below desk feeds n → seats ≡ front ++ x ∷ [] → n ≡ suc m
     → (front ≡ seats_below desk feeds m) × (x ≡ new_seat desk feeds m)
 last-new desk feeds m n seats front x all cut is =
     snoc-inj front (seats_below desk feeds m) x (new_seat desk feeds m) (sym cut ∙ all ∙ ap (seats_below desk feeds) is)
 
--- one pair more
+-- Lists that are related pairwise stay so if a related pair is appended.
 pub pairs-push : {X Y : Type 0} (R : X → Y → Type 0) (xs : List X) (ys : List Y) (x : X) (y : Y) → SideBySide R xs ys → R x y → SideBySide R (xs ++ x ∷ []) (ys ++ y ∷ [])
 pairs-push R [] [] x y h r = (r, tt)
 pairs-push R [] (b ∷ ys) x y h r = absurd h
 pairs-push R (a ∷ xs) [] x y h r = absurd h
 pairs-push R (a ∷ xs) (b ∷ ys) x y h r = (h.0, pairs-push R xs ys x y h.1 r)
 
--- the numbers of seats, with one more
+-- The numbers of seats to which one is appended.
 pub map-push : (xs : List SeatState) (x : SeatState) → map (λ (s : SeatState). s.number) (xs ++ x ∷ []) ≡ map (λ (s : SeatState). s.number) xs ++ x.number ∷ []
 map-push [] x = refl
 map-push (y ∷ xs) x = ap (λ l. y.number ∷ l) (map-push xs x)
@@ -47,7 +47,7 @@ empty-of : (xs : List SeatState) → length xs ≡ 0 → xs ≡ []
 empty-of [] e = refl
 empty-of (x ∷ xs) e = absurd (omega arith)
 
--- the numbers of new seats
+-- New seats have the numbers below n.
 pub new-numbers : (desk : DeskName) (feeds : List FeedName) (n : ℕ) → map (λ (s : SeatState). s.number) (seats_below desk feeds n) ≡ numbers_below n
 new-numbers desk feeds zero = refl
 new-numbers desk feeds (suc n) = map-push (seats_below desk feeds n) (new_seat desk feeds n) ∙ ap (λ l. l ++ n ∷ []) (new-numbers desk feeds n)
@@ -56,19 +56,19 @@ pub seats-many : (desk : DeskName) (feeds : List FeedName) (n : ℕ) → length 
 seats-many desk feeds zero = refl
 seats-many desk feeds (suc n) = omega (arith, length-append (seats_below desk feeds n) (new_seat desk feeds n ∷ []), seats-many desk feeds n)
 
--- new seats are of their desk, with its feeds
+-- New seats belong to their desk and have its feeds.
 pub new-of : (desk : DeskName) (feeds : List FeedName) (n : ℕ) → All (IsOf desk feeds) (seats_below desk feeds n)
 new-of desk feeds zero = All-nil (IsOf desk feeds)
 new-of desk feeds (suc n) = All-push (IsOf desk feeds) (seats_below desk feeds n) (new_seat desk feeds n) (new-of desk feeds n) (refl, refl)
 
--- what holds of all seats holds of those before the last, and of that
+-- What holds for all seats holds for those before the last, and for the last.
 pub front-and-last : (P : SeatState → Type 0) (xs : List SeatState) (x : SeatState) → All P (xs ++ x ∷ []) → All P xs × P x
 front-and-last P [] x h = (All-nil P, All-head P x [] h)
 front-and-last P (y ∷ xs) x h =
     let k = front-and-last P xs x (All-tail P y (xs ++ x ∷ []) h) in
     (All-cons P y xs (All-head P y (xs ++ x ∷ []) h) k.0, k.1)
 
--- by the number of its seat
+-- A driver's outcome by its own number is its outcome by the number of its seat.
 driven-by : {G : Type 0} (gives : G → ℕ → ℕ → Bool → Type 0) (told : G → ℕ → ℕ → Type 0) (gate : G) (who : ℕ) (rounds : Option ℕ) (s : SeatState) (all : Bool) → who ≡ suc s.number
     → DrivesFor gives told gate who rounds s all → DroveFor gives told gate rounds s all
 driven-by gives told gate who rounds s all is h = subst (λ w. DrivesFor gives told gate w rounds s all) is h
@@ -80,13 +80,13 @@ attended-by lets_in input output gives told door gate readonly who turns seat s 
     subst (λ w. InTurn (Attends lets_in input output gives told door gate readonly w) turns (new_seat s.desk s.feeds s.number) s e) is
     (subst (λ o. InTurn (Attends lets_in input output gives told door gate readonly who) turns o s e) fresh h)
 
--- however many Rounds it was to make
+-- A driver made only Rounds, whatever number of them it was to make.
 pub drove-alone : {G : Type 0} (gives : G → ℕ → ℕ → Bool → Type 0) (told : G → ℕ → ℕ → Type 0) (gate : G) (rounds : Option ℕ) (s : SeatState) (all : Bool)
     → DroveFor gives told gate rounds s all → All (λ p. p.0 ≡ call.Round) s.calls
 drove-alone gives told gate None s all h = h.1.rounds_alone
 drove-alone gives told gate (Some rounds) s all h = h.rounds_alone
 
--- one session more at a place
+-- One more session of a slot.
 pub one-more : (attends : SeatState → SeatState → SessionEnd → Type 0) (n : ℕ) (old between new : SeatState) (before last : SessionEnd) → 1 ≤ n
     → InTurn attends n old between before → attends between new last → InTurn attends (n + 1) old new last
 one-more attends zero old between new before last some h one = absurd (omega arith)
@@ -153,7 +153,7 @@ ready-first desk feeds sessions workers len seats ended drivers e d new many non
   room_driven = omega (arith, drivers_room, many);
 }
 
--- what a pop of the new seats gives and leaves
+-- What removing the last of the new seats returns and leaves.
 pub last-taken : (desk : DeskName) (feeds : List FeedName) (n m : ℕ) (seats front : List SeatState) (r : Option SeatState) → seats ≡ seats_below desk feeds n → seats ≡ front ++ option_to_list r
     → MatchOption r ((n ≡ 0) × (m ≡ 0)) (λ _. m + 1 ≡ n) → IfSome r (λ s. (s ≡ new_seat desk s.feeds m) × (n ≡ m + 1) × (seats ≡ front ++ s ∷ [])) × (front ≡ seats_below desk feeds m)
 last-taken desk feeds n m seats front None all cut h = (tt, sym (append-nil front) ∙ sym cut ∙ all ∙ ap (seats_below desk feeds) (h.0 ∙ sym h.1))
@@ -196,7 +196,7 @@ module _ (attends : SeatState → SessionEnd → Type 0) (drives : SeatState →
       (subst (λ k. Worked attends drives sessions n seats k drivers') (sym c)
       (subst (λ k. Worked attends drives sessions n seats ended k) (sym d) w)))
 
-  -- what came of one seat more
+  -- One more outcome, of a seat that is appended.
   worked-more : (sessions m who : ℕ) (seats : List SeatState) (ended : List SessionEnd) (drivers : List Bool) (s : SeatState) (o : Outcome)
       → Worked attends drives sessions m seats ended drivers → s.number ≡ m → who ≡ suc m → CameOf attends drives sessions who s o
       → Worked attends drives sessions (suc m) (seats ++ s ∷ []) (ended ++ ends_of o) (drivers ++ drives_of o)
@@ -205,7 +205,7 @@ module _ (attends : SeatState → SessionEnd → Type 0) (drives : SeatState →
   worked-more sessions m who seats ended drivers s (outcome.Drove all) w is next came =
       worked-as sessions _ _ _ _ _ _ _ _ refl refl (append-nil ended) refl (worked-driver attends drives sessions m seats ended drivers s all w (omega (arith, came.0, next)) is came.1)
 
-  -- there is room for it
+  -- There is room for one more outcome.
   room-for-more : (sessions m who : ℕ) (seats : List SeatState) (ended : List SessionEnd) (drivers : List Bool) (s : SeatState) (o : Outcome) (e d : ℕ)
       → Worked attends drives sessions m seats ended drivers → who ≡ suc m → CameOf attends drives sessions who s o → min (suc m) sessions ≤ e → suc m - sessions ≤ d
       → (length ended + length (ends_of o) ≤ e) × (length drivers + length (drives_of o) ≤ d)
@@ -218,13 +218,14 @@ module _ (attends : SeatState → SessionEnd → Type 0) (drives : SeatState →
       let drove = drivers-many sessions m seats ended drivers w in
       (omega (arith, many, came.0, next, ended_room), omega (arith, drove, came.0, next, drivers_room))
 
--- what came of one seat, said in other words
+-- The outcome of a seat, for relations that follow from the given ones.
 came-as : (attends attends' : SeatState → SessionEnd → Type 0) (drives drives' : SeatState → Bool → Type 0) (sessions who : ℕ) (s : SeatState) (o : Outcome)
     → ((e : SessionEnd) → attends s e → attends' s e) → ((all : Bool) → drives s all → drives' s all) → CameOf attends drives sessions who s o → CameOf attends' drives' sessions who s o
 came-as attends attends' drives drives' sessions who s (outcome.Attended e) f k came = (came.0, f e came.1)
 came-as attends attends' drives drives' sessions who s (outcome.Drove all) f k came = (came.0, k all came.1)
 
--- One place or driver more, whose seat was the last of the new ones, beside those before it: what came of them all, and that there is room for it.
+-- The outcomes of all seats up to the last of the new ones, and room for them. They follow from its
+-- outcome and from those of the seats before it.
 pub one-worked : {D Rd Wr G : Type 0} (lets_in : D → ℕ → Option (Rd × Wr) → Type 0) (input : Rd → Input) (output : Wr → Output) (gives : G → ℕ → ℕ → Bool → Type 0) (told : G → ℕ → ℕ → Type 0)
     (door : D) (gate : G) (readonly : Bool) (turns sessions : ℕ) (rounds : Option ℕ) (desk : DeskName) (n m who e d : ℕ) (news seats : List SeatState) (none ended : List SessionEnd)
     (undriven drivers : List Bool) (seat s : SeatState) (o : Outcome)

@@ -1,4 +1,4 @@
--- Gates that refuse no turn.
+-- The open gate refuses no command.
 use Rattle.std.proofs.Common.{ℕ, ◌+◌, Bool, false, Ok, length}
 use Rattle.click_control.specs.Serving.{Course, WentThrough}
 use Rattle.click_control.specs.declared.serving.Ended.TheVariants as ended

@@ -1,4 +1,4 @@
--- Seats of the work beside sessions and drivers.
+-- The seats of the additional work.
 use Rattle.std.proofs.Common.{◌≡◌, ℕ, zero, suc, ◌+◌, List, [], ◌∷◌, ◌++◌, drop, length, map, refl, sym, ap, ◌∙◌, subst, append_assoc, append-nil, length-append, arith}
 use Rattle.std.proofs.Math.Seq.{drop-append_seam}
 use Rattle.std.specs.List.{All, AllZip}
@@ -12,7 +12,7 @@ use Rattle.click_workers.specs.Work.{numbers_below}
 use Rattle.click_workers.proofs.LinkFeeds.{same-map}
 use Rattle.click_workers.proofs.NewSeats.{map-push}
 
--- two cuts of one list at one place
+-- Cutting a list at one index gives the same two parts.
 cut-same : (xs us ys vs : List SeatState) → length xs ≡ length us → xs ++ ys ≡ us ++ vs → (xs ≡ us) × (ys ≡ vs)
 cut-same [] [] ys vs many e = (refl, e)
 cut-same [] (u ∷ us) ys vs many e = absurd (omega arith)
@@ -34,7 +34,7 @@ pub from-many : (desk : DeskName) (feeds : List FeedName) (n m : ℕ) → length
 from-many desk feeds n zero = refl
 from-many desk feeds n (suc m) = omega (arith, length-append (seats_from desk feeds n m) (new_seat desk feeds (n + m) ∷ []), from-many desk feeds n m)
 
--- the last of new seats, so many, and those before them
+-- The last m of n + m new seats, and the seats before them.
 pub taken : (desk : DeskName) (feeds : List FeedName) (n m : ℕ) (seats front back : List SeatState) → seats ≡ seats_below desk feeds (n + m) → seats ≡ front ++ back → length back ≡ m
     → (front ≡ seats_below desk feeds n) × (back ≡ seats_from desk feeds n m)
 taken desk feeds n m seats front back all cut many =
@@ -43,12 +43,12 @@ taken desk feeds n m seats front back all cut many =
     omega (arith, ap length whole, length-append front back, length-append (seats_below desk feeds n) (seats_from desk feeds n m), many, from-many desk feeds n m) in
     cut-same front (seats_below desk feeds n) back (seats_from desk feeds n m) long whole
 
--- new seats are of their desk, with its feeds
+-- New seats belong to their desk and have its feeds.
 pub from-of : (desk : DeskName) (feeds : List FeedName) (n m : ℕ) → All (IsOf desk feeds) (seats_from desk feeds n m)
 from-of desk feeds n zero = All-nil (IsOf desk feeds)
 from-of desk feeds n (suc m) = All-push (IsOf desk feeds) (seats_from desk feeds n m) (new_seat desk feeds (n + m)) (from-of desk feeds n m) (refl, refl)
 
--- the first of new seats has made no call
+-- The first of some new seats has made no call.
 pub no-calls : (desk : DeskName) (feeds : List FeedName) (n m : ℕ) (rest : List SeatState) (one : SeatState) → one ∷ rest ≡ seats_from desk feeds n m → one.calls ≡ []
 no-calls desk feeds n m rest one is =
     All-head (λ (s : SeatState). s.calls ≡ []) one rest (subst (λ (l : List SeatState). All (λ (s : SeatState). s.calls ≡ []) l) (sym is) (each desk feeds n m))
@@ -57,7 +57,7 @@ no-calls desk feeds n m rest one is =
     each desk feeds n zero = All-nil (λ (s : SeatState). s.calls ≡ [])
     each desk feeds n (suc m) = All-push (λ (s : SeatState). s.calls ≡ []) (seats_from desk feeds n m) (new_seat desk feeds (n + m)) (each desk feeds n m) refl
 
--- seats stay of their desk, with its feeds
+-- Seats that keep their number, desk and feeds still belong to the desk and have its feeds.
 pub of-same : (desk : DeskName) (feeds : List FeedName) (olds news : List SeatState) → AllZip SameSeat olds news → All (IsOf desk feeds) olds → All (IsOf desk feeds) news
 of-same desk feeds [] [] h all = All-nil (IsOf desk feeds)
 of-same desk feeds [] (y ∷ ys) h all = absurd h
@@ -76,14 +76,14 @@ each-part P (x ∷ xs) ys h =
     let k = each-part P xs ys (All-tail P x (xs ++ ys) h) in
     (All-cons P x xs (All-head P x (xs ++ ys) h) k.0, k.1)
 
--- the seats behind one that so many others stand before
+-- The seats after the one at index n.
 pub drop-behind : (n : ℕ) (seats served rest : List SeatState) (one : SeatState) → seats ≡ served ++ one ∷ rest → length served ≡ n → drop (n + 1) seats ≡ rest
 drop-behind n seats served rest one parts many =
     let front : List SeatState = served ++ one ∷ [] in
     let long : n + 1 ≡ length front = omega (arith, many, length-append served (one ∷ [])) in
     ap (drop (n + 1)) (parts ∙ sym (append_assoc served (one ∷ []) rest)) ∙ ap (λ k. drop k (front ++ rest)) long ∙ drop-append_seam front rest
 
--- the seats of all are of their desk, with its feeds
+-- All seats, those of the additional work among them, belong to the desk and have its feeds.
 pub all-of : (desk : DeskName) (feeds : List FeedName) (n m : ℕ) (served olds news : List SeatState) → All (IsOf desk feeds) served → olds ≡ seats_from desk feeds n m → AllZip SameSeat olds news
     → All (IsOf desk feeds) (served ++ news)
 all-of desk feeds n m served olds news all is same =
@@ -97,7 +97,7 @@ from-numbers desk feeds n (suc m) =
     ∙ sym (append_assoc (numbers_below n) (map (λ (s : SeatState). s.number) (seats_from desk feeds n m)) ((n + m) ∷ []))
     ∙ ap (λ l. l ++ (n + m) ∷ []) (from-numbers desk feeds n m) ∙ ap numbers_below next
 
--- the numbers of the seats of all
+-- The numbers of all seats, those of the additional work among them, are the numbers below n + m.
 pub all-numbers : (desk : DeskName) (feeds : List FeedName) (n m : ℕ) (served olds news : List SeatState) → map (λ (s : SeatState). s.number) served ≡ numbers_below n → olds ≡ seats_from desk feeds n m
     → AllZip SameSeat olds news → map (λ (s : SeatState). s.number) (served ++ news) ≡ numbers_below (n + m)
 all-numbers desk feeds n m served olds news below is same =

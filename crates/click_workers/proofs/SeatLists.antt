@@ -1,4 +1,4 @@
--- How a seat's list grows in a session.
+-- How the list of a seat grows in a session.
 use Rattle.std.proofs.Common.{◌≡◌, ℕ, Bool, List, [], ◌∷◌, ◌++◌, length, Option, Some, None, Result, Ok, Err, refl, sym, ap, ◌∙◌, append_assoc, append-nil, length-append, arith}
 use Rattle.click_router.specs.declared.call.Call.{Call}
 use Rattle.click_desk.specs.SeatStates.{SeatState}
@@ -29,7 +29,7 @@ answered-grows p q None a h = ((ap (λ s. s.desk) h.1, ap (λ s. s.number) h.1, 
 answered-grows p q (Some c) a (Ok r, h, e) = (h.0, h.1.calls ∙ ap (λ b. p.calls ++ made_one (Some c) b) (sym e))
 answered-grows p q (Some c) a (Err f, h, e) = (h.0, h.1.calls ∙ sym (append-nil p.calls) ∙ ap (λ b. p.calls ++ made_one (Some c) b) (sym e))
 
--- the seat stays who it is, and its list grows by the asks that were not refused
+-- The seat has the same number, desk and feeds, and its list grows by the calls that did not fail.
 pub asked-grows : (readonly : Bool) (p : SeatState) (cs : List Command) (answers : List Answer) (q : SeatState) → Asked SeatAsks readonly p cs answers q
     → SameSeat p q × (q.calls ≡ p.calls ++ made readonly cs answers)
 asked-grows readonly _ _ _ _ (nothing p) = ((refl, refl, refl), sym (append-nil p.calls))

@@ -1,4 +1,4 @@
--- Who makes Transmits: of the seats of a run with links the forwarder's alone.
+-- In a run with links, only the forwarder's seat makes Transmits.
 use Rattle.std.proofs.Common.{◌≡◌, ℕ, zero, suc, ◌==◌, ◌⊎◌, inl, inr, slice_index_or, Bool, true, false, true≢false, if◌then◌else◌, List, Option, Some, None, IfSome, Result, [], ◌∷◌, ◌++◌, count_by, refl, sym, ap, ◌∙◌, subst, arith}
 use Rattle.std.proofs.lemmas.Bool.Decides.{nat_tests}
 use Rattle.std.specs.List.{All}
@@ -50,7 +50,7 @@ one-quiet (Some c) (answer.Replied r) h = All-cons (λ (p : Call × Reply). is_t
 one-quiet (Some c) (answer.Failed f) h = All-nil (λ (p : Call × Reply). is_transmit p.0 ≡ false)
 one-quiet (Some c) answer.NoCall h = All-nil (λ (p : Call × Reply). is_transmit p.0 ≡ false)
 
--- a session makes no Transmit
+-- A session makes no Transmit.
 pub made-quiet : (readonly : Bool) (cs : List Command) (answers : List Answer) → AreQuiet (made readonly cs answers)
 made-quiet readonly [] answers = All-nil (λ (p : Call × Reply). is_transmit p.0 ≡ false)
 made-quiet readonly (c ∷ cs) [] = All-nil (λ (p : Call × Reply). is_transmit p.0 ≡ false)
@@ -73,14 +73,14 @@ module _ {D Rd Wr G : Type 0} (lets_in : D → ℕ → Option (Rd × Wr) → Typ
   turns-quiet who (suc zero) old new e h quiet = attends-quiet who old new e h quiet
   turns-quiet who (suc (suc n)) old new e h quiet = attends-quiet who h.0 new e h.3 (turns-quiet who (suc n) old h.0 h.1 h.2 quiet)
 
-  -- the sessions of a place make no Transmit
+  -- The sessions of a slot make no Transmit.
   pub place-quiet : (turns : ℕ) (s : SeatState) (e : SessionEnd) → AttendedInTurn lets_in input output gives told door gate readonly turns s e → AreQuiet s.calls
   place-quiet turns s e h = turns-quiet (suc s.number) turns (new_seat s.desk s.feeds s.number) s e h (All-nil (λ (p : Call × Reply). is_transmit p.0 ≡ false))
 
 rounds-quiet : (calls : List (Call × Reply)) → All (λ p. p.0 ≡ call.Round) calls → AreQuiet calls
 rounds-quiet calls h = λ k d below. ap is_transmit (h k d below)
 
--- a driver makes no Transmit
+-- A driver makes no Transmit.
 pub driver-quiet : {G : Type 0} (gives : G → ℕ → ℕ → Bool → Type 0) (told : G → ℕ → ℕ → Type 0) (gate : G) (rounds : Option ℕ) (s : SeatState) (all : Bool)
     → DroveFor gives told gate rounds s all → AreQuiet s.calls
 driver-quiet gives told gate rounds s all h = rounds-quiet s.calls (drove-alone gives told gate rounds s all h)
@@ -91,7 +91,7 @@ each-of R P f [] (y ∷ ys) h = absurd h
 each-of R P f (x ∷ xs) [] h = absurd h
 each-of R P f (x ∷ xs) (y ∷ ys) h = All-cons P x xs (f x y h.0) (each-of R P f xs ys h.1)
 
--- nobody at a place and no driver makes a Transmit
+-- No session slot and no driver makes a Transmit.
 pub served-quiet : (attends : SeatState → SessionEnd → Type 0) (drives : SeatState → Bool → Type 0) → ((s : SeatState) (e : SessionEnd) → attends s e → AreQuiet s.calls)
     → ((s : SeatState) (all : Bool) → drives s all → AreQuiet s.calls) → (sessions n : ℕ) (seats : List SeatState) (ended : List SessionEnd) (drivers : List Bool)
     → Worked attends drives sessions n seats ended drivers → All (λ (s : SeatState). AreQuiet s.calls) seats
@@ -100,7 +100,7 @@ served-quiet attends drives f g sessions n seats ended drivers w =
     (both-all (λ (s : SeatState). AreQuiet s.calls) w.first w.others (each-of attends (λ (s : SeatState). AreQuiet s.calls) f w.first ended w.attended)
     (each-of drives (λ (s : SeatState). AreQuiet s.calls) g w.others drivers w.driven))
 
--- no entry of this seat is a Transmit
+-- No entry of this seat is a Transmit.
 abbrev IsQuietSeat : List Entry → ℕ → Type 0
 IsQuietSeat es n = All (λ (e : Entry). (e.seat == n) ≡ true → is_transmit e.call ≡ false) es
 
@@ -123,7 +123,8 @@ gift-first : (device : List ℕ) (b : Bool) (e : Entry) (all mine : List (Call �
 gift-first device true e all mine quiet same = ap (λ l. given_by device e.call e.reply ++ l) same
 gift-first device false e all mine quiet same = ap (λ l. l ++ gifts_by device all) (not-given device e.call e.reply (quiet refl)) ∙ same
 
--- where all other entries are no Transmits, what a device gave is what it gave by those of this seat
+-- If no entry of another seat is a Transmit, the packets that Transmits of a device returned are
+-- those that Transmits of this seat returned.
 packets_given-apart : (device : List ℕ) (n : ℕ) (es : List Entry) → All (λ (e : Entry). (e.seat == n) ≡ false → is_transmit e.call ≡ false) es
     → gifts_by device (calls_in es) ≡ gifts_by device (entries es n)
 packets_given-apart device n [] h = refl
@@ -134,7 +135,7 @@ packets_given-apart device n (e ∷ es) h =
 same-number : (a b : ℕ) → a ≡ b → (a == b) ≡ true
 same-number a b h = grind (arith, nat_tests, h)
 
--- of each of these seats no entry is a Transmit
+-- Apart from the seat with the number `own`, none of these seats has an entry that is a Transmit.
 each-quiet : (es : List Entry) (own : ℕ) (ss : List SeatState) → All (λ (s : SeatState). AreQuiet s.calls) ss → All (IsEntered es) ss
     → All (λ (s : SeatState). (s.number ≡ own) ⊎ IsQuietSeat es s.number) ss
 each-quiet es own [] quiet entered = All-nil (λ (s : SeatState). (s.number ≡ own) ⊎ IsQuietSeat es s.number)
@@ -143,7 +144,8 @@ each-quiet es own (s ∷ ss) quiet entered =
     All-cons (λ (t : SeatState). (t.number ≡ own) ⊎ IsQuietSeat es t.number) s ss (inr (quiet-seat es s.number mine))
     (each-quiet es own ss (All-tail (λ (t : SeatState). AreQuiet t.calls) s ss quiet) (All-tail (IsEntered es) s ss entered))
 
--- what a device gave in a history is what it gave by the calls of one seat, where the others make no Transmit
+-- If all other seats make no Transmit, the packets that Transmits of a device returned in a history
+-- are those in the calls of one seat.
 pub gives-alone : (device : List ℕ) (es : List Entry) (seats served rest : List SeatState) (one : SeatState) → seats ≡ served ++ one ∷ rest → All (λ (s : SeatState). AreQuiet s.calls) served
     → All (λ (s : SeatState). AreQuiet s.calls) rest → All (IsEntered es) seats → All (λ e. count_by (λ s. s.number == e.seat) seats ≡ 1) es → gifts_by device (calls_in es) ≡ gifts_by device one.calls
 gives-alone device es seats served rest one parts quiet quiet_rest entered numbered =

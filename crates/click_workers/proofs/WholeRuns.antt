@@ -23,13 +23,13 @@ none-named : (consumers : List ConsumerState) → map name_of consumers ≡ [] �
 none-named [] e = refl
 none-named (t ∷ consumers) e = absurd (let n : length (map name_of (t ∷ consumers)) ≡ 0 = ap length e in omega arith)
 
--- the book of a desk whose seats have no feeds has none
+-- The book of a desk whose seats have no feeds has no feeds.
 no-feeds : (desk : DeskName) (feeds : List FeedName) (seats : List SeatState) (book : BookState) → 0 < length seats → All (IsOf desk feeds) seats → Closes desk seats book → feeds ≡ [] → book.consumers ≡ []
 no-feeds desk feeds seats book some all closes none =
     let blank : SeatState = new_seat desk [] 0 in
     none-named book.consumers (sym (closes.feeds blank) ∙ (all 0 blank some).1 ∙ none)
 
--- what a closed desk's book says of the text that it was opened with
+-- The book of a closed desk satisfies the headline for the text that the desk was opened with.
 pub headline-of : (feeds : List FeedName) (room : Option ℕ) (text : List ℕ) (n : ℕ) (desk : DeskName) (seats : List SeatState) (book : BookState) → IsOpenedFor room text n desk → 0 < length seats
     → All (IsOf desk feeds) seats → IsEachOnce desk.options.seats seats → Closes desk seats book → HeadlineWith feeds room text n book
 headline-of feeds room text n desk seats book options some all once closes = record {
@@ -46,7 +46,8 @@ headline-of feeds room text n desk seats book options some all once closes = rec
       (λ k s below. (subst (λ (d : DeskName). IsOpenedFor room text n d) (sym (all k s below).0) options, (all k s below).1));
 }
 
--- a fault that the opening told is the text's first, also as the run tells it
+-- If opening the desk returns a fault of the configuration, it is the first fault of the text. The
+-- run returns the same.
 pub true-fault : (seats views : ℕ) (text : List ℕ) (fault : OpenFault) (result : RunFault) → ((f : ConfigFault) → (result ≡ run.Config f) ↔ (fault ≡ told.Config f))
     → IsViewFault seats [] views text fault → IsTrueFault text result
 true-fault seats views text fault (run.Config f) same why =
@@ -56,7 +57,7 @@ true-fault seats views text fault run.NoMemory same why = tt
 true-fault seats views text fault (run.Close code) same why = tt
 true-fault seats views text fault run.NoView same why = tt
 
--- so many seats, no inlets and one view at most are never why
+-- With 1 to 256 seats, no inlets and at most one view, the number of these is not the fault.
 pub late-fault : (seats views : ℕ) (text : List ℕ) (fault : OpenFault) → 0 < seats → seats ≤ 256 → views ≤ 1 → IsViewFault seats [] views text fault → IsLate fault
 late-fault seats views text told.SeatCount some within few (inl none) = absurd (omega arith)
 late-fault seats views text told.SeatCount some within few (inr many) = absurd (omega arith)
@@ -67,7 +68,8 @@ late-fault seats views text told.NoMemory some within few why = tt
 late-fault seats views text told.ViewCount some within few why = let h = why.1 in absurd (omega arith)
 late-fault seats views text told.NoView some within few why = tt
 
--- the same of an opening that began with want of memory, or not
+-- Does what `late-fault` does, for a run that may have been out of memory before it opened the
+-- desk.
 pub late-begun : (seats views : ℕ) (text : List ℕ) (fault : OpenFault) → 0 < seats → seats ≤ 256 → views ≤ 1 → (fault ≡ told.NoMemory) ⊎ IsViewFault seats [] views text fault → IsLate fault
 late-begun seats views text fault some within few (inl none) = subst IsLate (sym none) tt
 late-begun seats views text fault some within few (inr why) = late-fault seats views text fault some within few why
@@ -80,7 +82,7 @@ true-begun seats views text fault (run.Close code) same (inl none) = tt
 true-begun seats views text fault run.NoView same (inl none) = tt
 true-begun seats views text fault result same (inr why) = true-fault seats views text fault result same why
 
--- a view was not to be had only where one was asked for
+-- The fault is `NoView` only if a check was asked for.
 pub view-begun : (seats : ℕ) (name : Option (List ℕ)) (text : List ℕ) (fault : OpenFault) (result : RunFault) → ((result ≡ run.NoView) ↔ (fault ≡ told.NoView))
     → (fault ≡ told.NoMemory) ⊎ IsViewFault seats [] (views_for name) text fault → IsViewAsked name result
 view-begun seats (Some name) text fault result same why = tt
@@ -93,7 +95,7 @@ view-begun seats None text fault run.NoView same (inr why) =
     let some : 0 < 0 = h.3 in
     absurd (omega arith)
 
--- there is one view at most
+-- A check needs at most one view.
 pub few-views : (name : Option (List ℕ)) → views_for name ≤ 1
 few-views None = omega arith
 few-views (Some name) = omega arith
@@ -102,14 +104,14 @@ is-so : (b : Bool) (n : ℕ) → n ≡ cond b 1 0 + 0 → n ≡ 1 → b ≡ true
 is-so true n e h = refl
 is-so false n e h = absurd (omega (arith, e, h))
 
--- an entry that bears the number of the one seat is of that seat
+-- An entry of a history whose only seat is `s` has the number of `s`.
 borne : (s : SeatState) (at : ℕ) → count_by (λ (t : SeatState). t.number == at) (s ∷ []) ≡ 1 → at ≡ s.number
 borne s at one =
     let same : (s.number == at) ≡ true =
     is-so (s.number == at) (count_by (λ (t : SeatState). t.number == at) (s ∷ [])) (sum_by-cons (λ (t : SeatState). cond (t.number == at) 1 0) s []) one in
     grind (arith, nat_tests, same)
 
--- entries of one seat alone are its calls with its number
+-- If all entries are of one seat, they are its calls with its number.
 own-alone : (s : SeatState) (es : List Entry) → All (λ e. count_by (λ (t : SeatState). t.number == e.seat) (s ∷ []) ≡ 1) es
     → es ≡ entries_of s.number (entries es s.number)
 own-alone s [] all = refl
@@ -122,7 +124,8 @@ own-alone s (e ∷ es) all =
     ∙ ap (λ l. entry s.number e.call e.reply ∷ l) (own-alone s es (All-tail (λ (e : Entry). count_by (λ (t : SeatState). t.number == e.seat) (s ∷ []) ≡ 1) e es all))
     ∙ ap (entries_of s.number) (sym more)
 
--- of one seat the book's entries are just its calls, made one after another from the text
+-- The entries of a book with one seat are exactly the calls of the seat, in order, as one thread
+-- makes them from the text.
 pub one-seat : (text : List ℕ) (book : BookState) (s : SeatState) → Headline text 1 book → book.seats ≡ s ∷ []
     → (book.entries ≡ entries_of s.number s.calls) × Legal text (entries_of s.number s.calls) book.router
 one-seat text book s h is =

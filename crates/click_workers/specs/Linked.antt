@@ -22,23 +22,25 @@ use Rattle.click_workers.specs.Runs.{HeadlineWith}
 use Rattle.click_workers.specs.Work.{Worked}
 use Rattle.click_workers.specs.declared.session.SessionEnd.{SessionEnd}
 
--- the calls of a history with their replies, of all seats
+-- The calls of all seats in a history, with their replies.
 abbrev pub calls_in : List Entry → List (Call × Reply)
 calls_in history = map (λ e. (e.call, e.reply)) history
 
--- of these feeds the ones of this device are of this ring
+-- Each of these feeds that is of this device has this ring.
 abbrev pub FitsConsumers : List ConsumerState → List ℕ → RingName → Type 0
 FitsConsumers consumers device ring = All (λ t. t.device ≡ device → t.ring ≡ ring) consumers
 
--- of these feeds one is of this device, and that is of this ring
+-- One of these feeds is of this device, and each feed of this device has this ring.
 abbrev pub HasRing : List ConsumerState → List ℕ → RingName → Type 0
 HasRing consumers device ring = (has_feed device (map name_of consumers) ≡ true) × FitsConsumers consumers device ring
 
--- the headline of a desk that keeps no book, with one feed for each of these devices
+-- The headline of a live desk with one feed for each of these devices.
 abbrev pub LinkedHeadline : List (List ℕ) → List ℕ → ℕ → BookState → Type 0
 LinkedHeadline devices text n book = (feeds : List FeedName) × (map (λ (f : FeedName). f.device) feeds ≡ devices) × HeadlineWith feeds None text n book
 
--- The first seats are those of the places and drivers, with what came of each, and the last is the forwarder's: its calls are those of a forwarder of these devices, and just the packets that its Transmits gave were sent.
+-- The outcomes of a run with links. The first seats, `served`, are those of the session slots and
+-- drivers, each with its outcome. The last seat is the forwarder's: it made the calls of a
+-- forwarder of these devices, and exactly the packets that its Transmits returned were sent.
 pub record LinkedWork (attends : SeatState → SessionEnd → Type 0) (drives : SeatState → Bool → Type 0) (places workers : ℕ) (devices : List (List ℕ)) (before after : List Attempt)
     (seats : List SeatState) (ended : List SessionEnd) (drivers : List Bool) : Type 0 where
   pub served : List SeatState
@@ -48,24 +50,30 @@ pub record LinkedWork (attends : SeatState → SessionEnd → Type 0) (drives : 
   pub worked : Worked attends drives places (places + workers) served ended drivers
   pub forwards : Forwards devices [] forwarder.calls before after
 
--- none of these calls is a Transmit
+-- None of these calls is a Transmit.
 abbrev pub AreQuiet : List (Call × Reply) → Type 0
 AreQuiet calls = All (λ (p : Call × Reply). is_transmit p.0 ≡ false) calls
 
--- of these seats none but the first n made a Transmit
+-- Of these seats, only the first n may have made a Transmit.
 abbrev pub AreQuietFrom : ℕ → List SeatState → Type 0
 AreQuietFrom n seats = All (λ (s : SeatState). AreQuiet s.calls) (drop n seats)
 
--- The seat of a forwarder of these devices, and those of other work: the calls of the forwarder are its own, and just the packets that its Transmits gave were sent; what the other work did.
+-- What the forwarder and the additional work did. The forwarder made the calls of a forwarder of
+-- these devices, over the first seat of the pair, and exactly the packets that its Transmits
+-- returned were sent. The additional work did to its seats what `does` says.
 abbrev pub ForwardsBeside : {Seats Done : Type 0} → List (List ℕ) → List Attempt → List Attempt → (Seats → Seats → Done → Type 0) → SeatState × Seats → SeatState × Seats → Done → Type 0
 ForwardsBeside devices before after does old new done = Forwards devices old.0.calls new.0.calls before after × does old.1 new.1 done
 
--- What the feed of a device put is what the history polled of that device, followed by the rest, in order, each once; what is told as left is just the rest.
+-- The packets that were put into the feed of a device are those that the history polled of the
+-- device, followed by the rest, in order and exactly once. If a list is returned as left, it is
+-- that rest.
 abbrev pub IsSettled : List Entry → List ℕ → List Packet → Option (List Packet) → Type 0
 IsSettled history device put left = (rest : List Packet) × (put ≡ polled history device ++ rest) × IfSome left (λ l. l ≡ rest)
 
--- Datagrams came over the link of a device, each of which became a packet of its feed, which was new and had the places of a link, or was dropped for its cause and counted. What became packets is what the history polled of the device, followed by what is left,
--- in order, each once, also where there was no memory to tell what is left.
+-- The outcome of a link. Each datagram that came became a packet of the link's feed, or was dropped
+-- and counted by its cause. The feed was new and had the places of a link. Its packets are those
+-- that the history polled of the device, followed by the rest, in order and exactly once. This
+-- holds also if there was no memory to list the rest.
 pub record LinkRan (history : List Entry) (device : List ℕ) (came came2 : List Datagram) (dropped : Dropped) (left : Option (List Packet)) : Type 0 where
   pub from : Offering
   pub to : Offering
@@ -73,7 +81,9 @@ pub record LinkRan (history : List Entry) (device : List ℕ) (came came2 : List
   pub receives : Receives came came2 from to dropped
   pub settled : IsSettled history device to.feed.put left
 
--- Why there is no run of so many seats with links of these devices: want of memory, which may come first; else what a desk tells that has so many seats and one feed for each of these devices.
+-- Why there is no run with this many seats and with links of these devices. Either it is out of
+-- memory, or it is the fault of opening a desk with this many seats and one feed for each of these
+-- devices.
 abbrev pub IsTrueOpening : ℕ → List (List ℕ) → List ℕ → OpenFault → Type 0
 IsTrueOpening seats devices text f =
     (f ≡ fault.NoMemory) ⊎ ((feeds : List FeedName) × (map (λ (x : FeedName). x.device) feeds ≡ devices) × IsOpenFault seats feeds text f)

@@ -1,4 +1,4 @@
-//! Work at a desk beside its sessions and drivers.
+//! Additional work at a desk, alongside its sessions and drivers.
 
 use crate::seat_group::SeatGroup;
 use click_desk::Desk;
@@ -8,23 +8,24 @@ use std::sync::Wait;
 use std::sync::atomic::AtomicBool;
 use std::thread::Threads;
 
-/// Work of one thread at a desk, beside its sessions and drivers and over seats of its own.
+/// Additional work: one thread at a desk, alongside its sessions and drivers, with seats of its
+/// own.
 pub trait Beside<T: Handlers + Send + Drop>: Send + Drop {
     ghost use Rattle.std.specs.Prelude.{◌≡◌};
     ghost use Rattle.std.specs.List.{All, AllZip};
     ghost use Rattle.std.specs.Thread.{IsSync};
     ghost use Rattle.click_workers.specs.Seats.{SameSeat};
 
-    /// The seats that it takes.
+    /// The seats that it uses.
     type Seats: SeatGroup<T>;
 
-    /// What comes of it.
+    /// Its result.
     type Done: Send + Drop;
 
-    /// What it does: its seats before and after, and what comes of it.
+    /// What it does: its seats before and after, and its result.
     ghost does: { Self → Self.Seats → Self.Seats → Self.Done → Type 0 };
 
-    /// Works until `stop` is set, or less long, and gives its seats back.
+    /// Works until `stop` is set, or ends earlier. Returns the result and the seats.
     fn work<R: Threads + Wait + Sync>(
         self,
         rt: &R,
@@ -39,7 +40,7 @@ pub trait Beside<T: Handlers + Send + Drop>: Send + Drop {
         ensures does { does self seats result.1 result.0 };
 }
 
-/// No work, and no seat.
+/// Additional work that does nothing and has no seat.
 #[derive(Drop)]
 pub struct NothingBeside;
 

@@ -1,4 +1,4 @@
-//! The close of a run, with what is checked then.
+//! The close of a run's desk, and the check of a handler that is made then.
 
 ghost use Rattle.std.specs.Prelude.{◌≡◌, ◌<◌, List, ℕ, length, option_map, IfSome};
 ghost use Rattle.std.specs.List.{All};
@@ -12,14 +12,14 @@ use click_desk::{Book, Desk, Seat, View};
 use click_router::Check;
 use std::sync::Wait;
 
-/// A handler's name, and the view that is to answer whether it can be read.
+/// The name of a handler, and the view that checks whether it can be read.
 #[derive(Drop)]
 pub(crate) struct Asked<'a> {
     pub(crate) view: View,
     pub(crate) name: &'a [u8],
 }
 
-/// The view learns what each seat was told.
+/// Lets the view learn the notice of each seat.
 fn learn_all<T>(view: &mut View, seats: &[Seat<T>])
     requires { All (λ s. s.desk.options.origin ≡ view.old.board) seats.now }
     ensures board { view.new.board ≡ view.old.board }
@@ -42,7 +42,8 @@ pub(crate) fn close_all<T: Drop, R: Wait>(rt: &R, desk: Desk<T, &R>, seats: Vec<
     }
 }
 
-/// Closes a desk with all its seats, and checks the handler in the last configuration that was installed.
+/// Closes a desk with all its seats, and checks whether the handler can be read. The check is for
+/// the last configuration that was installed.
 fn close_and_answer<T: Drop, R: Wait>(
     rt: &R,
     desk: Desk<T, &R>,
@@ -64,7 +65,7 @@ fn close_and_answer<T: Drop, R: Wait>(
     (book, check)
 }
 
-/// Closes a desk with all its seats, and checks what is asked, if anything is.
+/// Closes a desk with all its seats, and makes the check if one is asked for.
 pub(crate) fn close_and_check<T: Drop, R: Wait>(
     rt: &R,
     desk: Desk<T, &R>,

@@ -1,6 +1,9 @@
-//! Who is served.
+//! The clients of a run: its sessions and drivers.
 
-/// Sessions and drivers of a router, and how they come in: so many places, each of which serves `turns` sessions, one after another, and drivers beside them.
+/// The session slots and drivers of a run, with the door and the gate that they use.
+///
+/// There are `places` session slots, each of which serves `turns` sessions, one after another.
+/// `workers` is the number of drivers. `readonly` refuses every write of a session.
 #[derive(Clone, Copy)]
 pub struct Clients<'a, D, G> {
     pub door: &'a D,

@@ -1,21 +1,25 @@
-//! Where sessions come from.
+//! The door, through which sessions come in.
 
 use click_control::{Sink, Source};
 
-/// Where sessions come from. Each session's thread enters by itself, and may wait there.
+/// A source of sessions. The thread of each session enters by itself, and may block there.
 pub trait Door: Sync {
     ghost use Rattle.std.specs.Prelude.{ℕ, Option};
 
-    /// The session's reader. It is made and dropped in the session's thread, but a bound `Drop` without `Send` would hold of one thread alone.
+    /// The reader of a session.
+    ///
+    /// It is created and dropped in the session's own thread. The bound is `Drop + Send`, because
+    /// `Drop` alone would hold for one thread only.
     type Reader: Source + Drop + Send;
 
-    /// The session's writer.
+    /// The writer of a session.
     type Writer: Sink + Drop + Send;
 
-    /// What a session of this number, from 1, may get: a reader and a writer, or nothing.
+    /// What the session of a number, from 1, may get: a reader and a writer, or nothing.
     ghost lets_in: { Self → ℕ → Option (Self.Reader × Self.Writer) → Type 0 };
 
-    /// The session's reader and writer, if it can come in.
+    /// Lets in the session with the number `who`. Returns its reader and its writer, or `None` if
+    /// it cannot come in.
     fn enter(&self, who: usize) -> Option<(Self::Reader, Self::Writer)>
         ensures { lets_in self.now who result };
 }

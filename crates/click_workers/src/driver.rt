@@ -1,4 +1,4 @@
-//! A driver at a desk.
+//! Drivers: threads that make Rounds at a desk.
 
 ghost use Rattle.std.specs.Prelude.{◌≡◌, ℕ, [], is_some};
 ghost use Rattle.click_workers.specs.Seats.{SameSeat};
@@ -11,10 +11,11 @@ use click_desk::{Desk, Seat};
 use click_router::Handlers;
 use std::sync::Wait;
 
-/// How long a driver that finds no work sleeps at most, in microseconds.
+/// The maximum duration of the sleep of a driver that finds no work, in microseconds.
 const LONGEST: u64 = 1_000;
 
-/// Makes one Round, where the gate gives the turn and the desk does not refuse it. Says how many packets its tasks gave or pulled, or that it was not made.
+/// Makes one Round, the nth of this driver. Returns the number of packets that its tasks emitted or
+/// pulled, or `None` if the gate refused the Round or it failed.
 fn take_turn<T: Handlers, G: Gate, R: Wait>(
     rt: &R,
     desk: &Desk<T, &R>,
@@ -39,7 +40,8 @@ fn take_turn<T: Handlers, G: Gate, R: Wait>(
     }
 }
 
-/// Makes this many Rounds, or stops at a closed gate or at the first fault. Says whether it made them all.
+/// Makes `rounds` Rounds. Stops early if the gate refuses one or one fails. Returns whether it made
+/// them all.
 fn drive<T: Handlers, G: Gate, R: Wait>(
     rt: &R,
     desk: &Desk<T, &R>,
@@ -62,8 +64,10 @@ fn drive<T: Handlers, G: Gate, R: Wait>(
     (true, seat)
 }
 
-/// Makes Rounds until every place has served its sessions, or stops at a closed gate or at the first fault. It sleeps after a Round without work, longer from one to
-/// the next. Says whether nothing stopped it.
+/// Makes Rounds until every slot has served its sessions. Stops early if the gate refuses a Round
+/// or one fails. Returns whether it did not stop early.
+///
+/// After a Round without work it sleeps, longer after each one in a row.
 fn drive_on<T: Handlers, G: Gate, R: Wait>(
     rt: &R,
     desk: &Desk<T, &R>,
@@ -90,7 +94,8 @@ fn drive_on<T: Handlers, G: Gate, R: Wait>(
     (true, seat)
 }
 
-/// Makes this many Rounds, or goes on until every place has served its sessions.
+/// Makes `rounds` Rounds as `drive` does or, if no number is given, makes Rounds as `drive_on`
+/// does.
 pub(crate) fn drive_for<T: Handlers, G: Gate, R: Wait>(
     rt: &R,
     desk: &Desk<T, &R>,

@@ -1,30 +1,35 @@
-//! What may hold a session or a driver before each of its commands.
+//! The gate, which may hold a session or a driver before each command.
 
 ghost use Rattle.std.specs.Prelude.{◌≡◌, true};
 
 use click_control::Turns;
 use std::marker::Model;
 
-/// What may hold a session or a driver, by its number from 1, before each of its commands.
+/// A gate that all sessions and drivers of a run share.
+///
+/// It may hold each of them before each of its commands, or refuse the command. A session or driver
+/// is known to it by its number, from 1; a command of a driver is a Round.
 pub trait Gate: Sync {
     ghost use Rattle.std.specs.Prelude.{ℕ, Bool};
 
-    /// What the gate may answer: who asks, the number of the command, and the answer.
+    /// What the gate may answer: the number of the caller, the number of the command, and the
+    /// answer.
     ghost gives: { Self → ℕ → ℕ → Bool → Type 0 };
 
-    /// What is so once the gate was told that a command of this one is answered.
+    /// What holds after the gate was notified: the number of the caller and that of the command.
     ghost told: { Self → ℕ → ℕ → Type 0 };
 
-    /// Called ahead of the nth command of this one, from 1. At `false` it ends.
+    /// Called before the nth command, from 1, of session or driver `who`. May block. If it returns
+    /// `false`, the session or driver ends.
     fn before(&self, who: usize, nth: u64) -> bool
         ensures { gives self.now who nth result };
 
-    /// Called once the nth command of this one is answered.
+    /// Called when the nth command of session or driver `who` is answered.
     fn after(&self, who: usize, nth: u64)
         ensures { told self.now who nth };
 }
 
-/// A gate that holds nobody.
+/// A gate that allows every command at once.
 #[derive(Drop)]
 pub struct OpenGate;
 
@@ -40,7 +45,7 @@ impl Gate for OpenGate {
     fn after(&self, _who: usize, _nth: u64) {}
 }
 
-/// The turns of one session at a gate.
+/// A session's end of a gate: the gate, with the number of the session.
 #[derive(Drop)]
 pub struct AtGate<'a, G> {
     gate: &'a G,

@@ -1,4 +1,4 @@
-//! Sessions and drivers at one desk, each in a thread of its own.
+//! Sessions, drivers, links and additional work as threads that share one desk.
 #![tactic(auto)]
 
 mod beside;

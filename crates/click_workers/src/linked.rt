@@ -1,4 +1,4 @@
-//! A router that stays, with links.
+//! A live router with links.
 
 ghost use Rattle.std.specs.Prelude.{◌≡◌, ◌<◌, ◌≤◌, ◌+◌, ◌++◌, ◌∷◌, List, ℕ, [], true, None, IfOk, IfErr, length, map, option_map, vec_len, vec_capacity};
 ghost use Rattle.std.specs.List.{All, AllZip};
@@ -37,18 +37,19 @@ use std::sync::atomic::{AtomicBool, Ordering};
 use std::thread;
 use std::thread::Threads;
 
-/// What came of a link.
+/// The outcome of a link.
 #[derive(Drop)]
 pub struct LinkEnd<L> {
     pub device: Sequence<u8>,
-    /// The end at which its datagrams came.
+    /// The receiving end of the link.
     pub link: L,
     pub received: Received,
-    /// The packets that came and did not enter the router; none where there was no memory to tell them.
+    /// The packets that came over the link and did not enter the router. `None` if there was no
+    /// memory to list them.
     pub left: Option<Vec<StoredPacket>>,
 }
 
-/// What came of each place, each driver and each link, and the book.
+/// The outcome of each session slot, each driver and each link, the sending end, and the book.
 #[derive(Drop)]
 pub struct LinkedRan<T, L, S> {
     pub ended: Vec<SessionEnd>,
@@ -58,7 +59,8 @@ pub struct LinkedRan<T, L, S> {
     pub book: Book<T>,
 }
 
-/// The links of a run: the devices that they are of, in one order with them, and the end by which packets go out.
+/// The links of a run. They are its devices, their receiving ends in the same order, and the end
+/// that sends the packets of all of them.
 #[derive(Drop)]
 pub struct LinkSetup<'a, L, S> {
     pub devices: &'a [Device],
@@ -66,7 +68,10 @@ pub struct LinkSetup<'a, L, S> {
     pub sender: S,
 }
 
-/// Serves at each place, drives, and works beside them, until all places have served, and meanwhile runs the links, of which the first seat is.
+/// Runs the links in parallel with the session slots, the drivers and the additional work. Requests
+/// the links to stop when all the others have ended.
+///
+/// The first seat of `run_seats.beside` is the forwarder's.
 fn serve_linked<
     T: Handlers + Send + Drop,
     D: Door,
@@ -146,7 +151,8 @@ fn serve_linked<
     )
 }
 
-/// Settles the feed of a device: the packets of it that did not enter, where there is memory to tell them.
+/// Settles the feed of a device. Returns the packets that did not enter the router, or `None` if
+/// there is no memory to list them.
 fn left_of<T>(
     alloc: Global,
     book: &mut Book<T>,
@@ -211,7 +217,7 @@ fn settle_all<T, L: Drop>(
     }
 }
 
-/// Settles the links' feeds in the book of a run.
+/// Settles the feeds of the links in the book of a run.
 fn settle<T: Drop, L: Drop, S>(
     alloc: Global,
     all: AllRan<T>,
@@ -243,7 +249,7 @@ fn settle<T: Drop, L: Drop, S>(
     }
 }
 
-/// Closes the desk with all its seats, and settles the links' feeds.
+/// Closes the desk with all its seats, and settles the feeds of the links.
 fn close_and_settle<T: Send + Drop, L: Drop, S, H: SeatGroup<T>, R: Wait>(
     rt: &R,
     alloc: Global,
@@ -278,12 +284,17 @@ fn close_and_settle<T: Send + Drop, L: Drop, S, H: SeatGroup<T>, R: Wait>(
     settle(alloc, all, receivers, sender, links)
 }
 
-/// Runs a router that stays, as `run_beside` does, with links beside its sessions and drivers, and work beside all of them: what `run_linked` promises, of more seats. The forwarder has the seat behind those of
-/// places and drivers, and the other work has those behind it. The links end once all places have served and that work has ended.
+/// Runs a live router with links and additional work. The contract is that of `run_linked`, for
+/// more seats.
 ///
-/// What was sent by the link of a device are just the packets of the replies to its Transmits in the one history, where the work beside makes no Transmit.
+/// The forwarder has the seat that follows those of the slots and drivers. The additional work has
+/// the seats after it. The links are requested to stop once every slot has served its sessions and
+/// the additional work has ended.
 ///
-/// Where no thread can be made, the links begin once they are told to end.
+/// Over the link of a device, exactly the packets in the replies to its Transmits in the history
+/// are sent, if the additional work makes no Transmit.
+///
+/// If no thread can be created, the links begin when they are already requested to stop.
 pub fn run_linked_beside<
     T: Handlers + Send + Drop,
     D: Door,
@@ -357,11 +368,17 @@ pub fn run_linked_beside<
     Ok((ran, done))
 }
 
-/// Runs a router that stays, as `run_live` does, with links beside its sessions and drivers: datagrams that come over a link are packets of its device, and packets that the device gives go out over it. One
-/// forwarder moves the packets of all links and makes Rounds while they have work; it has the last seat. Once every place has served its sessions the links end, the desk is closed, and the links' feeds are settled.
+/// Runs a live router, as `run_live` does, with links. A datagram that arrives over a link becomes
+/// a packet of its device, and a packet that the device transmits leaves over the link.
 ///
-/// The headline is that of `run_live`. What came over a link and was not dropped is what the history polled of its device, followed by what is left, whether or not there was memory to tell that; what was sent by the link of a device are, in order, just the
-/// packets of the replies to its Transmits in the one history, and only the forwarder makes any.
+/// One forwarder, which has the last seat, moves the packets of all links and makes Rounds while
+/// they find work. Once every slot has served its sessions, the links end, the desk is closed, and
+/// the feeds of the links are settled.
+///
+/// The headline is that of `run_live`. The packets that came over a link and were not dropped are
+/// those that the history polled of the device, followed by the rest. This holds also if there is
+/// no memory to list the rest. Over the link of a device, exactly the packets in the replies to its
+/// Transmits in the history were sent, in order. Only the forwarder makes Transmits.
 pub fn run_linked<
     T: Handlers + Send + Drop,
     D: Door,

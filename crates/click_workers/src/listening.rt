@@ -1,10 +1,10 @@
-//! Sessions that come over TCP.
+//! A door for sessions over TCP.
 
 use crate::door::Door;
 use click_control::{Reading, Writing};
 use std::net::{TcpListener, TcpStream};
 
-/// Accepts one connection for each that enters. Which peer comes is not known.
+/// A door that accepts one TCP connection for each session. Nothing is promised about the peer.
 #[derive(Drop)]
 pub struct Listening {
     listener: TcpListener,

@@ -14,25 +14,27 @@ use click_rings::Inlet;
 use std::alloc::Global;
 use std::sync::Wait;
 
-/// What a run begins with, and what is checked at its end.
+/// How a run's desk is opened, and the handler that is checked at the end.
 #[derive(Clone, Copy)]
 pub struct Opening<'a> {
     /// The configuration.
     pub text: &'a [u8],
-    /// How many entries its history may have; none: it has no bound, and is not kept.
+    /// The maximum number of entries of the history. `None`: a live desk, whose history has no
+    /// bound and is not stored.
     pub room: Option<usize>,
-    /// The handler of which a view says at the end whether it can be read.
+    /// The name of the handler that is checked at the end: a view answers whether it can be read.
     pub check: Option<&'a [u8]>,
 }
 
-/// A desk with new seats, and what is to be checked.
+/// A desk with new seats, and the check to make at the end.
 pub(crate) struct Opened<'a, 'b, T, R: Wait> {
     pub(crate) desk: Desk<T, &'a R>,
     pub(crate) seats: Vec<Seat<T>>,
     pub(crate) asked: Option<Asked<'b>>,
 }
 
-/// The view of a list of one at most, with the name that it is to check.
+/// Pairs the name that is to be checked with its view. There is a view if and only if there is a
+/// name.
 fn asked_of<'a>(check: Option<&'a [u8]>, mut views: Vec<View>) -> Option<Asked<'a>>
     requires { length views.items ≡ views_for (option_map (λ n. n.now) check) }
     ensures name { option_map (λ a. a.name.now) result ≡ option_map (λ n. n.now) check.entry }
@@ -47,7 +49,7 @@ fn asked_of<'a>(check: Option<&'a [u8]>, mut views: Vec<View>) -> Option<Asked<'
     }
 }
 
-/// How many views answer what is to be checked.
+/// Returns the number of views that the check needs: 1 if there is a name, otherwise 0.
 fn views_asked(check: Option<&[u8]>) -> usize
     ensures { result ≡ views_for (option_map (λ n. n.now) check.entry) }
 {
@@ -57,7 +59,8 @@ fn views_asked(check: Option<&[u8]>) -> usize
     }
 }
 
-/// Opens a desk with so many views, for a history of at most `room` entries that is kept, or for one without a bound that is not.
+/// Opens a desk with the given numbers of seats and views. If `opening` has a room, the desk has a
+/// book of at most that many entries; otherwise it is live.
 fn open_for<'a, T: Drop, R: Wait>(
     rt: &'a R,
     alloc: Global,
@@ -84,7 +87,7 @@ fn open_for<'a, T: Drop, R: Wait>(
     }
 }
 
-/// Opens a desk with new seats, and with a view where one is to check.
+/// Opens a desk with new seats, and with a view if a handler is to be checked.
 pub(crate) fn open_with<'a, 'b, T: Drop, R: Wait>(
     rt: &'a R,
     alloc: Global,

@@ -1,13 +1,13 @@
-//! Sleep where there is nothing to do.
+//! Sleep for a thread that found nothing to do, longer each time.
 
 use std::sync::Wait;
 use std::thread::Parker;
 use std::time::Duration;
 
-/// How long the first sleep is, in microseconds.
+/// The duration of the first sleep, in microseconds.
 const FIRST: u64 = 20;
 
-/// Sleeps, each twice as long as the one before it, up to a longest one.
+/// A sequence of sleeps, each twice as long as the one before it, up to a maximum.
 #[derive(Drop)]
 pub(crate) struct Pause {
     parker: Parker,
@@ -16,7 +16,7 @@ pub(crate) struct Pause {
 }
 
 impl Pause {
-    /// With sleeps of this many microseconds at most.
+    /// Returns a pause whose sleeps have at most `longest` microseconds.
     pub(crate) fn up_to(longest: u64) -> Pause {
         Pause {
             parker: Parker::new(),
@@ -25,7 +25,7 @@ impl Pause {
         }
     }
 
-    /// Sleeps where so much was done and that is nothing; else the next sleep is the first again.
+    /// Sleeps if `done` is 0. Otherwise makes the next sleep as short as the first.
     pub(crate) fn rest_after<R: Wait>(&mut self, rt: &R, done: u64) {
         if done == 0 {
             self.sleep(rt);
@@ -34,14 +34,14 @@ impl Pause {
         }
     }
 
-    /// Sleeps. Nobody wakes it before its time.
+    /// Sleeps for the full time: no thread wakes it.
     pub(crate) fn sleep<R: Wait>(&mut self, rt: &R) {
         self.parker
             .park_timeout(rt, Duration::from_micros(self.next));
         self.next = self.next.saturating_mul(2).min(self.longest);
     }
 
-    /// Makes the next sleep the first again.
+    /// Makes the next sleep as short as the first.
     pub(crate) fn begin_anew(&mut self) {
         self.next = FIRST;
     }

@@ -1,8 +1,9 @@
-//! The places of a run that still serve.
+//! The session slots of a run that are still serving.
 
 use std::sync::atomic::{AtomicUsize, Ordering};
 
-/// How many places have not served all their sessions yet. No clause speaks of the number: drivers may stop at any.
+/// The number of session slots that have not served all their sessions yet. No contract mentions
+/// it: drivers may stop at any time.
 #[derive(Drop)]
 pub(crate) struct Places {
     serving: AtomicUsize,
@@ -15,12 +16,12 @@ impl Places {
         }
     }
 
-    /// A place has served all its sessions.
+    /// Records that a slot has served all its sessions.
     pub(crate) fn leave(&self) {
         self.serving.fetch_sub(1, Ordering::SeqCst);
     }
 
-    /// Whether each has.
+    /// Returns whether every slot has served all its sessions.
     pub(crate) fn have_ended(&self) -> bool {
         self.serving.load(Ordering::SeqCst) == 0
     }

@@ -1,4 +1,4 @@
-//! The seats of a run with work beside it, from the opening to the close.
+//! The seats of a run with additional work, from the opening of the desk to its close.
 
 ghost use Rattle.std.specs.Prelude.{◌≡◌, ◌⊎◌, ◌<◌, ◌≤◌, ◌+◌, ◌++◌, ℕ, List, Option, IfOk, IfErr, IfSome, length, map, option_map, true, vec_len, vec_capacity};
 ghost use Rattle.std.specs.List.{All, AllZip};
@@ -28,21 +28,24 @@ use std::sync::atomic::{AtomicBool, Ordering};
 use std::thread;
 use std::thread::Threads;
 
-/// The seats of a run: those of its sessions and drivers, with what came of them, and those of the work beside them.
+/// The seats of a run. They are those of its session slots and drivers, with their outcomes, and
+/// those of the additional work.
 #[derive(Drop)]
 pub(crate) struct RunSeats<T, H> {
     pub(crate) work: Work<T>,
     pub(crate) beside: H,
 }
 
-/// A desk with new seats, and what is to be checked.
+/// A desk with new seats, and the check to make at the end.
 pub(crate) struct OpenedRun<'a, 'b, T, H, R: Wait> {
     pub(crate) desk: Desk<T, &'a R>,
     pub(crate) run_seats: RunSeats<T, H>,
     pub(crate) asked: Option<Asked<'b>>,
 }
 
-/// Opens a desk with new seats, and takes the room for what comes of each: all that can fail of a run of many is here, before anybody is served.
+/// Opens a desk with new seats, and reserves room for every outcome.
+///
+/// After this, nothing can make the run fail.
 pub(crate) fn begin<'a, 'b, T: Drop, H: SeatGroup<T>, R: Wait>(
     rt: &'a R,
     alloc: Global,
@@ -93,7 +96,8 @@ pub(crate) fn begin<'a, 'b, T: Drop, H: SeatGroup<T>, R: Wait>(
     })
 }
 
-/// Serves at each place and drives, with the work beside them, which is told to stop once all places have served.
+/// Serves the sessions and runs the drivers, with the additional work in parallel. Requests the
+/// additional work to stop once every slot has served its sessions and every driver has ended.
 pub(crate) fn serve_beside<
     T: Handlers + Send + Drop,
     D: Door,
@@ -149,7 +153,7 @@ pub(crate) fn serve_beside<
     (run_seats, done)
 }
 
-/// Closes the desk with all its seats, and checks what is asked, if anything is.
+/// Closes the desk with all its seats, and makes the check if one is asked for.
 pub(crate) fn finish<T: Drop, H: SeatGroup<T>, R: Wait>(
     rt: &R,
     desk: Desk<T, &R>,

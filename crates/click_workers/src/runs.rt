@@ -1,4 +1,4 @@
-//! Whole runs.
+//! Whole runs: from opening a desk to its book.
 
 ghost use Rattle.std.specs.Prelude.{◌≡◌, ◌↔◌, ◌<◌, ◌≤◌, ◌+◌, List, ℕ, [], None, IfOk, IfErr, IfSome, OnErr, option_map};
 ghost use Rattle.click_desk.specs.SeatStates.{seats_below};
@@ -24,26 +24,27 @@ use std::sync::Wait;
 use std::thread::Threads;
 use thiserror::Error;
 
-/// How many entries the history of a run that ends may have.
+/// The maximum number of entries of a book's history.
 const ROOM: usize = 1_048_576;
 
-/// Why there is no book.
+/// The fault of a run that has no book.
 #[derive(Debug, Drop, Error)]
 pub enum RunFault {
-    /// The configuration is faulty.
+    /// The configuration has a fault.
     #[error(transparent)]
     Config(ConfigFault),
     #[error("out of memory")]
     NoMemory,
-    /// The close was refused: 61 where a seat is missing, 62 where its calls are not its entries. No run answers it.
+    /// The close was refused, with a number for the cause. No run returns this.
     #[error("the close was refused ({0})")]
     Close(u16),
-    /// There was no view for the check.
+    /// No view was available for the check.
     #[error("no view")]
     NoView,
 }
 
-/// What came of each session and each driver, the book, and what was checked once all had ended.
+/// The outcomes of the session slots and drivers, the book, and the result of the check. The check
+/// was made after all had ended.
 #[derive(Drop)]
 pub struct AllRan<T> {
     pub ended: Vec<SessionEnd>,
@@ -52,14 +53,15 @@ pub struct AllRan<T> {
     pub checked: Option<Check>,
 }
 
-/// What came of each session and each driver, and of the work beside them.
+/// The outcomes of the session slots and drivers, with the book. `done` is the result of the
+/// additional work.
 #[derive(Drop)]
 pub struct BesideRan<T, X> {
     pub all: AllRan<T>,
     pub done: X,
 }
 
-/// How a session ended, the book, and what was checked then.
+/// How the session ended, the book, and the result of the check.
 #[derive(Drop)]
 pub struct Ran<T> {
     pub ended: Result<Ended, ServeFault>,
@@ -67,7 +69,7 @@ pub struct Ran<T> {
     pub checked: Option<Check>,
 }
 
-/// Why no desk was opened, where it was to have one seat at least and 256 at most, no inlets, and one view at most.
+/// Converts the fault of opening a desk that has 1 to 256 seats, no inlets and at most one view.
 fn fault_of(fault: OpenFault) -> RunFault
     requires { IsLate fault }
     ensures config { (f : ConfigFault) → (result ≡ RunFault.Config f) ↔ (fault ≡ OpenFault.Config f) }
@@ -85,7 +87,7 @@ fn fault_of(fault: OpenFault) -> RunFault
     }
 }
 
-/// Opens a desk with one new seat and no inlets, and with a view where one is to check.
+/// Opens a desk with one new seat and no inlets, and with a view if a handler is to be checked.
 fn open_one<'a, 'b, T: Drop, R: Wait>(
     rt: &'a R,
     alloc: Global,
@@ -107,7 +109,7 @@ fn open_one<'a, 'b, T: Drop, R: Wait>(
     }
 }
 
-/// Serves one session over a desk with one new seat, and closes it. It cannot fail.
+/// Serves one session over a desk with one new seat, and closes the desk. Never fails.
 fn serve_and_close<T: Handlers + Drop, S: Source, W: Sink, R: Wait>(
     rt: &R,
     alloc: Global,
@@ -142,10 +144,11 @@ fn serve_and_close<T: Handlers + Drop, S: Source, W: Sink, R: Wait>(
     }
 }
 
-/// Serves one session over a desk with one seat, and closes it. Where a name is given, a view then learns what the seat was told and answers whether that
-/// handler can be read.
+/// Serves one session over a desk with one seat, and closes the desk. If the name of a handler is
+/// given, a view then checks whether that handler can be read.
 ///
-/// The session's answers that are not refused for memory or room are those of one thread that begins with what the text opens.
+/// Except for calls that failed (out of memory or history full), the session gets the replies that
+/// a single thread gets that starts with the given text.
 pub fn run<T: Handlers + Drop, S: Source, W: Sink, R: Wait>(
     rt: &R,
     alloc: Global,
@@ -176,13 +179,17 @@ pub fn run<T: Handlers + Drop, S: Source, W: Sink, R: Wait>(
     Ok(serve_and_close(rt, alloc, opened, reader, writer, readonly))
 }
 
-/// Runs sessions and drivers over a desk, with work beside them over seats of its own, each in a thread of its own where one can be made, and closes the desk. A history without a bound is not
-/// kept. Each driver makes so many Rounds, or, where none are told, goes on until every place has served its sessions; then the work beside them is told to stop. Where a name is given,
-/// a view then learns what every seat was told and answers whether that handler can be read.
+/// Runs session slots and drivers over a desk, with additional work, and closes the desk.
 ///
-/// Places have the numbers from 1 on, drivers those after them, and each has the seat of the number before it; the work beside them has the seats behind.
+/// Each runs in a thread of its own if the system can create one. Each driver makes `rounds` Rounds
+/// or, if no number is given, Rounds until every slot has served its sessions. Then the additional
+/// work is requested to stop. If `opening` names a handler, a view finally checks whether it can be
+/// read. The desk is live, and its history is not stored, if `opening` has no room.
 ///
-/// Where no thread can be made, the work beside them begins once it is told to stop.
+/// Slots have the numbers from 1, and drivers the numbers after them. The seat of each has the
+/// number one less. The seats of the additional work follow.
+///
+/// If no thread can be created, the additional work begins when it is already requested to stop.
 pub fn run_beside<
     T: Handlers + Send + Drop,
     D: Door,
@@ -233,7 +240,7 @@ pub fn run_beside<
     Ok(BesideRan { all, done })
 }
 
-/// Runs sessions and drivers with nothing beside them.
+/// Runs session slots and drivers, without additional work.
 fn run_alone<T: Handlers + Send + Drop, D: Door, G: Gate, R: Threads + Wait + Sync>(
     rt: &R,
     alloc: Global,
@@ -262,10 +269,12 @@ fn run_alone<T: Handlers + Send + Drop, D: Door, G: Gate, R: Threads + Wait + Sy
     }
 }
 
-/// Runs sessions and drivers over a desk, each in a thread of its own where one can be made, and closes the desk. Where a name is given, a view then learns what
-/// every seat was told and answers whether that handler can be read.
+/// Runs sessions and drivers over a desk, and closes the desk. Each runs in a thread of its own if
+/// the system can create one. If the name of a handler is given, a view finally checks whether that
+/// handler can be read.
 ///
-/// Sessions have the numbers from 1 on, drivers those after them, and each has the seat of the number before it.
+/// Sessions have the numbers from 1, and drivers the numbers after them. The seat of each has the
+/// number one less.
 pub fn run_workers<T: Handlers + Send + Drop, D: Door, G: Gate, R: Threads + Wait + Sync>(
     rt: &R,
     alloc: Global,
@@ -305,13 +314,18 @@ pub fn run_workers<T: Handlers + Send + Drop, D: Door, G: Gate, R: Threads + Wai
     run_alone(rt, alloc, table, opening, clients, Some(rounds))
 }
 
-/// Runs a router that stays: over a desk that keeps no book, so that it takes no more memory however long it runs. There are so many places for sessions, each of
-/// which serves `turns` of them, one after another over one seat, and drivers beside them, which make Rounds until every place has served its sessions; each place
-/// and each driver has a thread of its own where one can be made. Then the desk is closed. With 2^64 - 1 turns none of this ends before the process does.
+/// Runs a live router: its desk stores no book, so its memory does not grow with the calls.
 ///
-/// Its promises are those of `run_workers`, of a history that nobody keeps: there is one, of just these calls with just these replies. It is never full.
+/// There are `places` session slots, each of which serves `turns` sessions, one after another over
+/// one seat. Drivers make Rounds until every slot has served its sessions. Each slot and each
+/// driver has a thread of its own if the system can create one. Finally the desk is closed. With
+/// 2^64 - 1 turns this does not happen before the process ends.
 ///
-/// Where no thread can be made, the first place serves all its sessions before the next begins, and the drivers make no Round.
+/// The contract is that of `run_workers`, for a history that is ghost state: there is a history of
+/// exactly these calls with exactly these replies. It is never full.
+///
+/// If no thread can be created, the first slot serves all its sessions before the next one begins,
+/// and the drivers make no Round.
 pub fn run_live<T: Handlers + Send + Drop, D: Door, G: Gate, R: Threads + Wait + Sync>(
     rt: &R,
     alloc: Global,

@@ -1,31 +1,31 @@
-//! Seats that are taken from those of a desk, and put back.
+//! Groups of seats that are taken from the seats of a desk and put back.
 
 use click_desk::Seat;
 
-/// The seats of what works beside sessions and drivers: none, one, or those of two.
+/// The seats of additional work: none, one, or those of two groups.
 pub trait SeatGroup<T>: Send + Drop {
     ghost use Rattle.std.specs.Prelude.{◌≡◌, ◌≤◌, ◌+◌, ◌++◌, ℕ, List, length, vec_capacity};
     ghost use Rattle.click_desk.specs.SeatStates.{SeatState};
 
-    /// How many they are.
+    /// The number of seats of the group.
     ghost many: { ℕ };
 
-    /// They, in order.
+    /// The seats of the group, in order.
     ghost sittings: { Self → List SeatState };
 
-    /// How many seats there are, these and so many others.
+    /// Returns the number of seats of the group, plus `others`.
     fn with_others(others: usize) -> usize
         requires { others + many ≤ 256 }
         ensures { result ≡ others + many };
 
-    /// Takes the last of these.
+    /// Removes the last seats of `from`, as many as the group has, and returns them as a group.
     fn take(from: &mut Vec<Seat<T>>) -> Self
         requires { many ≤ length from.old.items }
         ensures taken { from.old.items ≡ from.new.items ++ sittings result }
         ensures count { length (sittings result) ≡ many }
         ensures room { vec_capacity from.new ≡ vec_capacity from.old };
 
-    /// Puts them back behind these, which have room for them.
+    /// Appends the seats of the group to `to`, which has room for them.
     fn give(self, to: &mut Vec<Seat<T>>)
         requires { length to.old.items + length (sittings self) ≤ vec_capacity to.old }
         ensures given { to.new.items ≡ to.old.items ++ sittings self }

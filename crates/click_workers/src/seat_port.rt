@@ -1,4 +1,4 @@
-//! A desk and a seat of it, as a session's port.
+//! A seat of a desk as the port of a session.
 
 ghost use Rattle.std.specs.Prelude.{◌≡◌, MatchResult};
 
@@ -9,7 +9,7 @@ use std::alloc::Global;
 use std::marker::Model;
 use std::sync::Wait;
 
-/// A seat at the desk that it belongs to. Contracts see it as the seat.
+/// A seat, together with the desk that it belongs to. Its value in contracts is the seat.
 pub struct SeatPort<'a, T, R, B: Wait + Drop> {
     rt: &'a R,
     desk: &'a Desk<T, B>,
@@ -36,7 +36,7 @@ impl<'a, T, R, B: Wait + Drop> SeatPort<'a, T, R, B> {
         SeatPort { rt, desk, seat }
     }
 
-    /// The seat.
+    /// Returns the seat.
     pub fn into_seat(self) -> Seat<T>
         ensures { result ≡ self.entry }
     {

@@ -1,4 +1,4 @@
-//! What the threads of a run share.
+//! The settings and the state that the threads of a run share.
 
 ghost use Rattle.std.specs.Prelude.{◌≡◌};
 
@@ -6,23 +6,24 @@ use crate::clients::Clients;
 use crate::places::Places;
 use std::alloc::Global;
 
-/// What each place and each driver of a run is told, beside its door and its gate.
+/// What each session slot and each driver of a run needs besides its door and its gate.
 #[derive(Drop)]
 pub(crate) struct Service {
     pub(crate) alloc: Global,
     pub(crate) readonly: bool,
-    /// How many places there are for sessions.
+    /// The number of session slots.
     pub(crate) sessions: usize,
-    /// How many sessions each place serves, one after another.
+    /// The number of sessions that each slot serves, one after another.
     pub(crate) turns: u64,
-    /// How many Rounds each driver makes; none: it goes on until every place has served its sessions.
+    /// The number of Rounds of each driver. `None`: it makes Rounds until every slot has served its
+    /// sessions.
     pub(crate) rounds: Option<u64>,
-    /// The places that still serve.
+    /// The slots that are still serving.
     pub(crate) places: Places,
 }
 
 impl Service {
-    /// Of these clients, none of whom is served yet.
+    /// Returns the service of these clients, with every slot still serving.
     pub(crate) fn of<D, G>(alloc: Global, clients: &Clients<D, G>, rounds: Option<u64>) -> Service
         ensures { (result.readonly ≡ clients.now.readonly) × (result.sessions ≡ clients.now.places) × (result.turns ≡ clients.now.turns) × (result.rounds ≡ rounds) }
     {

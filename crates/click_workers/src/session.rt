@@ -1,4 +1,4 @@
-//! A session over a desk and a seat.
+//! Sessions over a seat of a desk.
 
 ghost use Rattle.std.specs.Prelude.{◌≡◌, ◌<◌};
 ghost use Rattle.click_control.specs.Serving.{WentThrough, NoneRefused, most_reads};
@@ -16,7 +16,10 @@ use click_router::Handlers;
 use std::alloc::Global;
 use std::sync::Wait;
 
-/// Serves a session over a seat of the desk: the seat's list grows by just the calls that were not refused for memory or room, with their replies.
+/// Serves a session over a seat of the desk. Returns how it ended, and the seat.
+///
+/// The seat's list grows by exactly the calls that did not fail (out of memory or history full),
+/// with their replies.
 pub fn serve_at<T: Handlers, S: Source, W: Sink, G: Turns, R: Wait, B: Wait + Drop>(
     alloc: Global,
     mut port: SeatPort<T, R, B>,
@@ -33,7 +36,7 @@ pub fn serve_at<T: Handlers, S: Source, W: Sink, G: Turns, R: Wait, B: Wait + Dr
     (ended, port.into_seat())
 }
 
-/// The same with as many reads as a session may have, and turns that are all given.
+/// Serves a session as `serve_at` does, without a gate and with the maximum number of reads.
 pub(crate) fn serve_alone<T: Handlers, S: Source, W: Sink, R: Wait, B: Wait + Drop>(
     alloc: Global,
     mut port: SeatPort<T, R, B>,
@@ -47,19 +50,19 @@ pub(crate) fn serve_alone<T: Handlers, S: Source, W: Sink, R: Wait, B: Wait + Dr
     (ended, port.into_seat())
 }
 
-/// What came of a session.
+/// The outcome of a session.
 #[derive(Drop)]
 pub enum SessionEnd {
-    /// It did not come in.
+    /// The door did not let it in.
     NoEntry,
     /// It was served.
     Served(Result<Ended, ServeFault>),
 }
 
-/// How many reads a session may have.
+/// The maximum number of reads of a session.
 const MOST_READS: u32 = 4_294_967_295;
 
-/// Lets a session in and serves it over the seat.
+/// Lets one session in through the door, under the number `who`, and serves it over the seat.
 fn attend<T: Handlers, D: Door, G: Gate, R: Wait>(
     rt: &R,
     desk: &Desk<T, &R>,
@@ -89,10 +92,14 @@ fn attend<T: Handlers, D: Door, G: Gate, R: Wait>(
     (SessionEnd::Served(ended), seat)
 }
 
-/// How long a place that nobody came in at sleeps at most, in microseconds.
+/// The maximum duration of the sleep of a slot after a session was not let in, in microseconds.
 const LONGEST: u64 = 100_000;
 
-/// Lets so many sessions in, one after another, and serves each over the seat. Where one did not come in it sleeps before the next. Says how the last one ended.
+/// Lets `service.turns` sessions in, one after another, and serves each over the seat. Returns how
+/// the last one ended.
+///
+/// If a session is not let in, sleeps before the next one. Finally records that this slot has
+/// served all its sessions.
 pub(crate) fn attend_in_turn<T: Handlers, D: Door, G: Gate, R: Wait>(
     rt: &R,
     desk: &Desk<T, &R>,

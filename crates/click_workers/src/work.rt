@@ -1,4 +1,4 @@
-//! Sessions and drivers, each in a thread of its own.
+//! The session slots and drivers of a run, each in a thread of its own.
 
 ghost use Rattle.std.specs.Prelude.{◌≡◌, ◌≤◌, ◌<◌, ◌+◌, ◌++◌, ◌∷◌, [], IfSome, IfNone, length, vec_len, vec_capacity};
 ghost use Rattle.std.specs.Thread.{IsSend, IsSync};
@@ -17,7 +17,8 @@ use std::sync::Wait;
 use std::thread;
 use std::thread::Threads;
 
-/// The seats, and what came of the sessions and of the drivers, with room for all of it.
+/// The seats of a run, with the outcomes of its session slots and drivers, and room for all
+/// outcomes.
 #[derive(Drop)]
 pub(crate) struct Work<T> {
     pub(crate) seats: Vec<Seat<T>>,
@@ -25,7 +26,8 @@ pub(crate) struct Work<T> {
     pub(crate) drivers: Vec<bool>,
 }
 
-/// What came of one seat: how the last session of its place ended, or whether its driver made all its Rounds.
+/// The outcome of one seat. It says how the last session of its slot ended, or whether its driver
+/// made all its Rounds.
 #[derive(Drop)]
 pub(crate) enum Outcome {
     Attended(SessionEnd),
@@ -33,7 +35,7 @@ pub(crate) enum Outcome {
 }
 
 impl<T> Work<T> {
-    /// Puts a seat behind the others, and what came of it behind what came of them.
+    /// Appends a seat, and appends its outcome to those of its kind. Never allocates.
     fn add(&mut self, outcome: Outcome, seat: Seat<T>)
         requires seats { vec_len self.old.seats < vec_capacity self.old.seats }
         requires ended { vec_len self.old.ended + length (ends_of outcome) ≤ vec_capacity self.old.ended }
@@ -51,7 +53,8 @@ impl<T> Work<T> {
     }
 }
 
-/// Takes the last of the new seats.
+/// Removes the last of the new seats and returns it, with the rest. Returns `None` if no seat is
+/// left.
 fn last_of<T, B: Wait + Drop>(
     desk: &Desk<T, B>,
     sessions: usize,
@@ -77,7 +80,7 @@ fn last_of<T, B: Wait + Drop>(
     (last, rest)
 }
 
-/// The sessions of one place, or one driver, as the number is that of a place or not.
+/// Serves the sessions of a slot, if `who` is at most the number of slots, and drives otherwise.
 fn work_one<T: Handlers, D: Door, G: Gate, R: Wait>(
     rt: &R,
     desk: &Desk<T, &R>,
@@ -102,7 +105,8 @@ fn work_one<T: Handlers, D: Door, G: Gate, R: Wait>(
     }
 }
 
-/// The session or driver of each seat, one beside the rest, each in a thread of its own where one can be made.
+/// Serves the slot or runs the driver of each seat. All run in parallel, each in a thread of its
+/// own if the system can create one.
 pub(crate) fn work_all<T: Handlers + Send + Drop, D: Door, G: Gate, R: Threads + Wait + Sync>(
     rt: &R,
     desk: &Desk<T, &R>,

@@ -1,4 +1,4 @@
--- Lemmas about what arguments stand for.
+-- Lemmas about the values that arguments stand for.
 use Rattle.std.proofs.Common.{◌≡◌, ℕ, ◌+◌, ◌<◌, ◌≤◌, List, [], ◌∷◌, ◌++◌, length, get_or, take, true, false, Option, Some, Result, Ok, Err, refl, arith}
 use Rattle.std.specs.Prelude.{nat_le}
 use Rattle.std.specs.List.{AllZip}
@@ -17,11 +17,11 @@ zip_push R [] (b ∷ ys) x y h r = absurd h
 zip_push R (a ∷ xs) [] x y h r = absurd h
 zip_push R (a ∷ xs) (b ∷ ys) x y h r = (h.0, zip_push R xs ys x y h.1 r)
 
--- the words of one argument more
+-- the words of one more argument
 pub words_more : (args : List (List ℕ)) (all : List (List (List ℕ))) (i : ℕ) (w : List (List ℕ)) → i < length args → AllZip AreWords (take i args) all → AreWords (get_or args i []) w → AllZip AreWords (take (i + 1) args) (all ++ w ∷ [])
 words_more args all i w h so_far next = let e = take_more args i [] h in rw e (zip_push AreWords (take i args) all (get_or args i []) w so_far next)
 
--- the bytes of a source whose first argument is there
+-- the bytes of a source, if its first argument is given
 pub bytes_given : (argument : List ℕ) (o : Option (List ℕ)) (bytes : Option (List ℕ)) (r : Result (List ℕ) ArgFault) → Some argument ≡ o → StandsFor argument bytes → r ≡ source_bytes (Some bytes) → AreBytes o r
 bytes_given argument o bytes r e s f = rw (← e) (Some bytes, (bytes, s, refl), f)
 

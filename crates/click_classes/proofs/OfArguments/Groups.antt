@@ -37,7 +37,7 @@ preceded-preceded p q (Some xs) = ap Some (sym (append_assoc p q xs))
 pub preceded_none : (p : List ℕ) (o : Option (List ℕ)) → o ≡ None → preceded p o ≡ None
 preceded_none p o e = rw e refl
 
--- one group and one separator further
+-- one more group and separator
 pub separated_step : (k : Group) (separator : ℕ) (values rest : List ℕ) (i at x : ℕ) (all : Option (List ℕ)) → position (λ b. b == separator) rest ≡ Some at → group k (take at rest) ≡ Some x → i + 1 < length values → preceded (take i values) (separated k separator (length values - i) rest) ≡ all → preceded (take (i + 1) (set values i x)) (separated k separator (length (set values i x) - (i + 1)) (drop (at + 1) rest)) ≡ all
 separated_step k separator values rest i at x all e f h g =
     let in_values : i < length values = omega arith in

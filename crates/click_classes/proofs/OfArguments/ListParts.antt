@@ -6,7 +6,7 @@ use Rattle.click_classes.specs.Values.{digit_value}
 use Rattle.click_classes.specs.Patterns.{value_of, counted_bits, mask_of}
 use Rattle.click_classes.specs.Steps.{◌>>=◌, each}
 
--- parts with others before them
+-- the parts, with others before them
 abbrev pub preceded : {B : Type 0} → List B → Result (List B) ArgFault → Result (List B) ArgFault
 preceded p r = r >>= λ bs. Ok (p ++ bs)
 
@@ -15,14 +15,14 @@ preceded_one p b (Ok bs) = ap Ok (sym (append_assoc p (b ∷ []) bs))
 preceded_one p b (Err f) = refl
 
 module _ {A B : Type 0} (read : A → Result B ArgFault) (parts : List A) (p : List B) (i : ℕ) (d : A) (all : Result (List B) ArgFault) (within : i < length parts) (so_far : preceded p (each read (drop i parts)) ≡ all) where
-  -- one part further
+  -- one more part
   pub each_more : (b : B) → read (get_or parts i d) ≡ Ok b → preceded (p ++ b ∷ []) (each read (drop (i + 1) parts)) ≡ all
   each_more b e =
       let next : each read (drop i parts) ≡ (read (get_or parts i d) >>= λ b. each read (drop (i + 1) parts) >>= λ bs. Ok (b ∷ bs)) = at_drop_more (each read) parts i d within in
       let found : each read (drop i parts) ≡ (each read (drop (i + 1) parts) >>= λ bs. Ok (b ∷ bs)) = rw e at next in
       sym (preceded_one p b (each read (drop (i + 1) parts))) ∙ ap (preceded p) (sym found) ∙ so_far
 
-  -- a faulty part
+  -- a part with a fault
   pub each_fault : (f : ArgFault) → read (get_or parts i d) ≡ Err f → all ≡ Err f
   each_fault f e =
       let next : each read (drop i parts) ≡ (read (get_or parts i d) >>= λ b. each read (drop (i + 1) parts) >>= λ bs. Ok (b ∷ bs)) = at_drop_more (each read) parts i d within in
@@ -35,7 +35,7 @@ each_end read parts p i all h so_far =
     let end : each read (drop i parts) ≡ Ok [] = at_drop_all (each read) parts i h in
     sym so_far ∙ ap (preceded p) end ∙ ap Ok (append-nil p)
 
--- two digits further
+-- two more digits
 next_two : (ds : List ℕ) (i : ℕ) → i < length ds / 2 → drop (2 * i) ds ≡ get_or ds (2 * i) 0 ∷ get_or ds (2 * i + 1) 0 ∷ drop (2 * (i + 1)) ds
 next_two ds i h =
     let first = drop_more ds (2 * i) 0 (omega arith) in

@@ -1,4 +1,5 @@
--- A text has one list of items, so one list of arguments, of words, and so on.
+-- A text has only one list of items, and so only one list of arguments and of words, and only one
+-- result.
 use Rattle.std.proofs.Common.{◌≡◌, List, [], ◌∷◌, ℕ, Option, refl, sym, ◌∙◌, ap}
 use Rattle.std.specs.List.{AllZip}
 use Rattle.click_text.specs.declared.syntax.Span.{Span}

@@ -1,4 +1,4 @@
--- Lemmas on prefixes and Ethernet addresses that are read back from their text.
+-- Prefixes and Ethernet addresses read back from their text.
 use Rattle.std.proofs.Common.{◌≡◌, ◌==◌, ℕ, suc, ◌+◌, ◌/◌, ◌%◌, ◌<◌, ◌≤◌, List, [], ◌∷◌, ◌++◌, length, drop, Bool, true, false, ◌&&◌, Some, Ok, decimal, codes, refl, ap, ◌∙◌, arith, append_assoc}
 use Rattle.std.specs.Prelude.{◌||◌, nat_le}
 use Rattle.std.specs.List.{list_all}
@@ -44,7 +44,7 @@ digits_pass (d ∷ ds) h =
 decimal_passes : (n : ℕ) → n < 256 → list_all in_address (decimal n) ≡ true
 decimal_passes n h = digits_pass (decimal n) (digits-decimal n (omega arith))
 
--- a number before others
+-- a number before other bytes
 more_passes : (n : ℕ) (rest : List ℕ) → n < 256 → list_all in_address rest ≡ true → list_all in_address (decimal n ++ 46 ∷ rest) ≡ true
 more_passes n rest h r =
     let d = decimal_passes n h in

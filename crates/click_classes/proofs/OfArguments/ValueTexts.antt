@@ -1,4 +1,4 @@
--- Lemmas on values that are read back from their text.
+-- Values read back from their text.
 use Rattle.std.proofs.Common.{◌≡◌, ℕ, suc, ◌+◌, ◌^◌, ◌<◌, ◌≤◌, List, [], ◌∷◌, ◌++◌, length, drop, Bool, true, false, Some, Ok, Err, decimal, refl, ap, ◌∙◌, arith, codes, append_assoc}
 use Rattle.std.specs.Prelude.{◌&&◌, nat_le}
 use Rattle.std.specs.Option.{ok_or}
@@ -81,7 +81,7 @@ octet a h =
     let t : nat_le (length (decimal a)) 3 ≡ true = grind (arith, nat_tests) in
     rw t (decimal_in-read 255 a (omega arith) (omega arith))
 
--- a number and a byte behind it
+-- a number and the byte after it
 drop-one_more : (xs ys : List ℕ) (b : ℕ) → drop (length xs + 1) (xs ++ b ∷ ys) ≡ ys
 drop-one_more xs ys b = drop-append-add xs (b ∷ ys) 1
 

@@ -19,7 +19,7 @@ low_bits n b j h e =
     let byte : n % 2 ^ 8 % 2 ^ j ≡ n % 2 ^ j = rw whole at cut in
     sym byte ∙ ap (λ x. x % 2 ^ j) e
 
--- a number below some bits of one of its bytes
+-- a number modulo a power of two: some bits of one of its bytes, and all bytes below
 below : (n b m j : ℕ) → j ≤ 8 → n / 2 ^ m % 256 ≡ b → n % 2 ^ (j + m) ≡ b % 2 ^ j * 2 ^ m + n % 2 ^ m
 below n b m j h e = mod-pow-add n j m ∙ ap (λ x. x * 2 ^ m + n % 2 ^ m) (low_bits (n / 2 ^ m) b j h e)
 
@@ -44,7 +44,7 @@ number_of a b c d = 16777216 * a + 65536 * b + 256 * c + d
 word_four : (a b c d : ℕ) → word (a ∷ b ∷ c ∷ d ∷ []) ≡ number_of a b c d
 word_four a b c d = omega arith
 
--- to clear the bits past a length is to clear so many low bits of the number
+-- clearing the bits after the first `len` of an address clears the low 32 - len bits of its number
 module _ (len a b c d : ℕ) (a_byte : a < 256) (b_byte : b < 256) (c_byte : c < 256) (d_byte : d < 256) where
   cut_8 : len ≤ 8 → number_of (first_bits len a) (first_bits (len - 8) b) (first_bits (len - 16) c) (first_bits (len - 24) d) + number_of a b c d % 2 ^ (32 - len) ≡ number_of a b c d
   cut_8 h =
@@ -121,7 +121,7 @@ same_words a b c d e f g h i j k l m n o p s =
     let x : d ≡ h = omega (arith, t) in
     cc
 
--- a list of four
+-- a list of four items
 four_of : (a : List ℕ) → length a ≡ 4 → a ≡ slice_index a 0 ∷ slice_index a 1 ∷ slice_index a 2 ∷ slice_index a 3 ∷ []
 four_of [] e = absurd (omega arith)
 four_of (a ∷ []) e = absurd (omega arith)
@@ -146,7 +146,7 @@ module _ (len : ℕ) (a n : List ℕ) (within : len ≤ 32) (i : IsAddress a) (j
       (j.bytes 0) (j.bytes 1) (j.bytes 2) (j.bytes 3) e
       ∙ sym (four_of n j.four)
 
-  -- an address has a prefix where its masked number is that of the network
+  -- a prefix covers an address exactly if the masked number of the address is that of the network
   pub masked_covers : (bit_and (word a) (2 ^ 32 - 2 ^ (32 - len)) == word n) ≡ bytes_eq (cleared len a) n
   masked_covers = elim (cases_Bool (bytes_eq (cleared len a) n)) [
     | inl t ↦

@@ -1,14 +1,14 @@
--- Lemmas about bytes as numbers, and which of their bits agree.
+-- Lemmas about bytes as numbers, and about the bits in which they agree.
 use Rattle.std.proofs.Common.{◌≡◌, ℕ, zero, suc, ◌+◌, ◌*◌, ◌<◌, refl, sym, ap, ◌∙◌, arith}
 use Rattle.std.specs.Prelude.{bit_and}
 use Rattle.std.proofs.lemmas.Nat.{and_block, and_le_l}
 use Rattle.click_classes.specs.kept.Masks.{word}
 
--- numbers that are bytes
+-- all values are bytes
 abbrev pub Small : (ℕ → ℕ) → Type 0
 Small f = (i : ℕ) → f i < 256
 
--- the bits that two words share are those that their bytes share
+-- the bitwise `and` of two words is that of their bytes
 pub word-and : (n : ℕ) (f g : ℕ → ℕ) → Small f → Small g → bit_and (word f n) (word g n) ≡ word (λ i. bit_and (f i) (g i)) n
 unfolding word
 word-and zero f g h k = refl
@@ -43,7 +43,7 @@ and-small f g h i =
     let b = and_le_l (f i) (g i) in
     omega arith
 
--- words agree in the bits of a mask where their bytes do
+-- two words agree in the bits of a mask exactly if their bytes do
 module _ (x v m : ℕ → ℕ) (x_small : Small x) (v_small : Small v) (m_small : Small m) where
   pub words-agree : ((i : ℕ) → i < 8 → bit_and (x i) (m i) ≡ bit_and (v i) (m i)) → bit_and (word x 8) (word m 8) ≡ bit_and (word v 8) (word m 8)
   words-agree h =

@@ -1,4 +1,4 @@
--- Lemmas on the text of a number: decimal digits that spell it.
+-- Lemmas about the text of a number: decimal digits that spell it.
 use Rattle.std.proofs.Common.{◌≡◌, ◌==◌, ℕ, ◌+◌, ◌-◌, ◌*◌, ◌^◌, ◌<◌, List, [], ◌∷◌, ◌++◌, length, Bool, true, false, Some, None, decimal, refl, ap, ◌∙◌, inl, inr, arith, length-append}
 use Rattle.std.specs.Prelude.{position, ◌&&◌, nat_lt}
 use Rattle.std.specs.List.{list_all, position_or_len}
@@ -51,7 +51,7 @@ is_run-decimal n h =
 pub spelled-decimal : (n : ℕ) → n < 2 ^ 64 → spelled 10 0 (decimal n) ≡ n
 spelled-decimal n h = digits_value-decimal own n h
 
--- ---- a byte that stands behind others
+-- ---- a byte after other bytes
 
 module _ (test : ℕ → Bool) (separator : ℕ) (fails : test separator ≡ false) where
   other : (x : ℕ) → test x ≡ true → (x == separator) ≡ false
@@ -68,7 +68,7 @@ module _ (test : ℕ → Bool) (separator : ℕ) (fails : test separator ≡ fal
       let rest = before xs ys p.1 in
       rw (e, rest) (omega arith)
 
-  -- the first place of a byte
+  -- the first index of a byte
   pub position-behind : (xs ys : List ℕ) → list_all test xs ≡ true → position (λ b. b == separator) (xs ++ separator ∷ ys) ≡ Some (length xs)
   position-behind xs ys h =
       let e = before xs ys h in

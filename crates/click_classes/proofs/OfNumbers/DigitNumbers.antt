@@ -7,7 +7,7 @@ use Rattle.click_classes.specs.Values.{spelled, digit_value, at_most}
 product_grows : (base n : ℕ) → 0 < base → n ≤ base * n
 product_grows base n h = let one : 1 ≤ base = omega arith in omega (arith, mul-le-mul_left n one)
 
--- further digits make a number no smaller
+-- more digits make a number no smaller
 pub spelled_grows : (base n : ℕ) (ds : List ℕ) → 0 < base → n ≤ spelled base n ds
 spelled_grows base n [] h = omega arith
 spelled_grows base n (d ∷ ds) h =

@@ -15,7 +15,7 @@ first_bits_again : (bits b : ℕ) → first_bits bits (first_bits bits b) ≡ fi
 unfolding first_bits
 first_bits_again bits b = let e = mul-div_cancel (b / 2 ^ (8 - bits)) (pow_pos (8 - bits)) in ap (λ q. q * 2 ^ (8 - bits)) e
 
--- to clear an address again changes nothing
+-- clearing an address twice is clearing it once
 pub cleared_again : (len : ℕ) (a : List ℕ) → cleared len (cleared len a) ≡ cleared len a
 unfolding cleared
 cleared_again len a =
@@ -33,7 +33,7 @@ mapped : {A B : Type 0} (o : Option A) (f : A → B) (b : B) → option_map f o 
 mapped None f b e = cc
 mapped (Some a) f b e = (a, refl, cc)
 
--- so many groups
+-- as many values as groups
 pub separated_len : (k : Group) (separator n : ℕ) (bytes values : List ℕ) → separated k separator n bytes ≡ Some values → length values ≡ n
 unfolding separated
 separated_len k separator zero bytes values e = cc
@@ -85,7 +85,7 @@ prefix_at_cleared : (bytes : List ℕ) (at : Option ℕ) (p : Prefix) → prefix
 prefix_at_cleared bytes None p f = whole_cleared bytes (address bytes) p refl f
 prefix_at_cleared bytes (Some at) p f = part_cleared (address (take at bytes)) (decimal_in 32 (drop (at + 1) bytes)) p f
 
--- the bits past a prefix's length are clear
+-- the bits of a prefix after its length are clear
 pub prefix_cleared : (bytes : List ℕ) (p : Prefix) → prefix bytes ≡ Ok p → cleared p.len p.network ≡ p.network
 unfolding prefix
 prefix_cleared bytes p e = prefix_at_cleared bytes (position (λ b. b == 47) bytes) p e

@@ -1,4 +1,4 @@
--- Lemmas on what a clause says of a packet, byte by byte.
+-- Lemmas about what a clause requires of a packet, byte by byte.
 use Rattle.std.proofs.Common.{◌≡◌, ◌==◌, ◌↔◌, ℕ, ◌+◌, ◌/◌, ◌%◌, ◌<◌, ◌≤◌, List, [], ◌∷◌, length, take, drop, replicate, Bool, true, false, not, ◌&&◌, bit_and, Option, Some, None, Ok, refl, sym, ap, ◌∙◌, inl, inr, arith, length-drop, get_or-drop}
 use Rattle.std.specs.Prelude.{nat_le, position, slice_index}
 use Rattle.std.specs.List.{list_all}
@@ -22,7 +22,7 @@ mask-length (h ∷ l ∷ ds) [] e = absurd (omega (arith, e))
 mask-length (h ∷ l ∷ ds) (m ∷ []) e = absurd (omega (arith, e))
 mask-length (h ∷ l ∷ ds) (m ∷ n ∷ ms) e = let r = mask-length ds ms (omega (arith, e)) in omega (arith, r)
 
--- a clause has a byte, and as many of a mask
+-- a clause has at least one byte, and a mask with as many bytes
 pub record IsWhole (c : Clause) : Type 0 where
   pub some : 1 ≤ length c.value
   pub masked : length c.value ≡ length c.mask
@@ -70,7 +70,7 @@ clause-whole word c e = elim (cases_Bool (slice_index word 0 == 33)) [
   | inr t ↦ let f = rw t at e in with_digits-whole false word (position (λ b. b == 47) word) c f
 ]
 
--- ---- what it says of a packet
+-- ---- what a clause requires of a packet
 
 abbrev pub Wants : Clause → List ℕ → Type 0
 Wants c bytes = (c.offset + length c.value ≤ length bytes)

@@ -1,4 +1,4 @@
--- Lemmas on what the digits of a clause say of a packet.
+-- Lemmas about what the digits of a clause require of a packet.
 use Rattle.std.proofs.Common.{◌≡◌, ◌==◌, ◌↔◌, ℕ, zero, suc, ◌+◌, ◌*◌, ◌/◌, ◌%◌, ◌<◌, ◌≤◌, List, [], ◌∷◌, ◌++◌, map, length, drop, Bool, true, false, not, bit_and, Option, Some, None, Ok, decimal, codes, refl, ap, ◌∙◌, inl, inr, arith}
 use Rattle.std.specs.Prelude.{unwrap_or}
 use Rattle.std.specs.Int.Bits.{and_zero_r}
@@ -30,7 +30,7 @@ half_from : (o : Option ℕ) (n : ℕ) → IsAs o n → bit_and n (bits_of o) �
 half_from None n e = and_zero_r n
 half_from (Some m) n e = ap (λ k. bit_and k 15) e
 
--- two halves side by side
+-- two halves of a byte
 in_halves : (b : Halves) (h l : ℕ) → l < 16 → bit_and (16 * h + l) (counted b) ≡ bit_and h (bits_of b.high) * 16 + bit_and l (bits_of b.low)
 in_halves b h l q =
     let x : 16 * h + l ≡ h * 16 + l = omega arith in

@@ -1,4 +1,4 @@
--- A step agrees with the bytes of a clause that it is made of.
+-- A step agrees with the bytes of the clause that it is made from.
 use Rattle.std.proofs.Common.{◌≡◌, ◌⊎◌, ℕ, ◌+◌, ◌-◌, ◌<◌, ◌≤◌, List, length, drop, min, Bool, true, false, ◌&&◌, bit_and, refl, sym, ap, ◌∙◌, arith, inl, inr, length-drop, get_or-drop}
 use Rattle.std.specs.Prelude.{nat_le, slice_index}
 use Rattle.std.specs.Int.Bits.{and_zero_r}
@@ -17,7 +17,8 @@ behind-small lead bytes h i = elim (cases_Bool (nat_le lead i)) [
   | inr t ↦ rw t (omega arith)
 ]
 
--- what a step is made of: its eight bytes end with those of the clause, or begin with the packet
+-- the step is made from these bytes: its eight bytes end with those of the clause, or begin at the
+-- start of the packet
 pub record IsMadeOf (offset : ℕ) (value mask : List ℕ) (s : Step) : Type 0 where
   pub same : length value ≡ length mask
   pub few : length value ≤ 8
@@ -33,7 +34,7 @@ same_bools true b f g = sym (f refl)
 same_bools false true f g = g refl
 same_bools false false f g = refl
 
--- a step that fits holds of what reaches to its end
+-- a step that fits holds of a packet that has enough bytes
 holds_when : (s : Step) (bytes : List ℕ) → fits s bytes ≡ true → s.end ≤ length bytes → step_holds s bytes ≡ true
 holds_when s bytes f l =
     let e : nat_le s.end (length bytes) ≡ true = grind (arith, nat_tests) in
@@ -165,6 +166,6 @@ rest_at at k bytes i e =
       | inr l ↦ nothing bytes (k + i) (omega (arith, e)) ∙ sym (nothing bytes (at + i) (omega arith))
     ])
 
--- the eight bytes of a packet's rest
+-- the eight bytes at the end of a packet
 pub rest_word : (at k : ℕ) (bytes : List ℕ) → k ≡ min (length bytes) at → word (behind 0 (drop k bytes)) 8 ≡ word (at_place at bytes) 8
 rest_word at k bytes e = word-same 8 (behind 0 (drop k bytes)) (at_place at bytes) (λ i l. rest_at at k bytes i e)

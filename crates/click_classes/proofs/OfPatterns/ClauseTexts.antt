@@ -1,4 +1,4 @@
--- Lemmas on clauses that are read back from their text.
+-- Clauses read back from their text.
 use Rattle.std.proofs.Common.{◌≡◌, ◌==◌, ℕ, zero, suc, ◌+◌, ◌*◌, ◌/◌, ◌%◌, ◌<◌, ◌≤◌, List, [], ◌∷◌, ◌++◌, map, length, take, drop, replicate, Bool, true, false, Option, Some, None, Ok, decimal, refl, ap, ◌∙◌, inl, inr, arith, codes, append_assoc}
 use Rattle.std.specs.Prelude.{nat_le, nat_lt, position, slice_index, unwrap_or}
 use Rattle.std.specs.List.{list_all}
@@ -23,7 +23,7 @@ few n h = let t : nat_lt n 10 ≡ true = grind (arith, nat_tests) in rw t refl
 many : (n : ℕ) → 10 ≤ n → hex_digit_of n ≡ 87 + n
 many n h = let t : nat_lt n 10 ≡ false = grind (arith, nat_tests) in rw t refl
 
--- a digit, and no other byte of a clause
+-- b is the digit of n, and no other byte of a clause
 pub record IsDigit (b n : ℕ) : Type 0 where
   pub hex : hex_digit b ≡ true
   pub hex_digit_value : digit_value b ≡ n

@@ -1,4 +1,4 @@
--- Lemmas on bytes that agree with a value under a mask.
+-- Lemmas about bytes that agree with a value under a mask.
 use Rattle.std.proofs.Common.{◌≡◌, ◌==◌, ℕ, zero, suc, ◌<◌, ◌≤◌, List, [], ◌∷◌, length, take, drop, get_or, Bool, false, true, ◌&&◌, bit_and, min, refl, sym, ap, ◌∙◌, inl, inr, arith}
 use Rattle.std.proofs.lemmas.List.{drop_all}
 use Rattle.std.proofs.lemmas.Bool.{cases_Bool, cases_lt}
@@ -17,7 +17,7 @@ agrees-empty_mask [] (v ∷ value) = refl
 agrees-empty_mask (b ∷ bytes) [] = refl
 agrees-empty_mask (b ∷ bytes) (v ∷ value) = refl
 
--- nothing is left of the value or of the mask
+-- no byte of the value or of the mask is left
 pub agrees-nothing : (bytes value mask : List ℕ) (at : ℕ) → min (length value) (length mask) ≤ at → agrees bytes (drop at value) (drop at mask) ≡ true
 agrees-nothing bytes value mask at p =
     elim (cases_lt at (length value)) [
@@ -31,7 +31,7 @@ first_and : (bytes value mask : List ℕ) (b v m : ℕ) → bit_and b m ≡ bit_
 first_and bytes value mask b v m e h zero l = e
 first_and bytes value mask b v m e h (suc i) l = h i (omega arith)
 
--- bytes agree where enough are there and each of them does
+-- bytes agree exactly if there are enough and each of them agrees
 pub agrees-each : (bytes value mask : List ℕ) → length value ≡ length mask → agrees bytes value mask ≡ true
     → (length value ≤ length bytes) × ((i : ℕ) → i < length value → bit_and (get_or bytes i 0) (get_or mask i 0) ≡ bit_and (get_or value i 0) (get_or mask i 0))
 agrees-each bytes [] [] e t = (omega arith, λ i l. absurd (omega arith))
@@ -62,7 +62,7 @@ and_both : (a b c : Bool) → ((a && b) && c) ≡ (a && (b && c))
 and_both true b c = refl
 and_both false b c = refl
 
--- the first bytes of a value, and those behind them
+-- the first bytes of a value, and those after them
 pub agrees-cut : (k : ℕ) (bytes value mask : List ℕ) → k ≤ length value → k ≤ length mask
     → agrees bytes value mask ≡ (agrees bytes (take k value) (take k mask) && agrees (drop k bytes) (drop k value) (drop k mask))
 agrees-cut zero bytes value mask l h = rw (agrees-empty_value bytes []) refl

@@ -22,7 +22,7 @@ drop_drop zero j xs = ap (λ n. drop n xs) (omega arith)
 drop_drop (suc i) j [] = let e : suc i + j ≡ suc (i + j) = omega arith in rw e (drop-none j)
 drop_drop (suc i) j (x ∷ xs) = let e : suc i + j ≡ suc (i + j) = omega arith in rw e (drop_drop i j xs)
 
--- the steps up to a place and what is left of a clause say what is left from the beginning on
+-- the steps so far, with the bytes of the clause that are left, agree with all bytes from `from` on
 pub record SoFar (offset : ℕ) (value mask : List ℕ) (from at : ℕ) (steps : List Step) : Type 0 where
   pub same : (bytes : List ℕ) → IsBytes bytes
       → (list_all (λ s. step_holds s bytes) steps && agrees (drop (offset + at) bytes) (drop at value) (drop at mask))
@@ -39,7 +39,7 @@ and_true false = refl
 pub so_far_begins : (offset : ℕ) (value mask : List ℕ) (from : ℕ) → SoFar offset value mask from from []
 so_far_begins offset value mask from = record { same = λ bytes b. refl }
 
--- a clause's bytes cut in two
+-- the bytes of a clause in two parts
 two_parts : (offset at k : ℕ) (value mask bytes : List ℕ) → k ≤ length (drop at value) → k ≤ length (drop at mask)
     → agrees (drop (offset + at) bytes) (drop at value) (drop at mask)
     ≡ (agrees (drop (offset + at) bytes) (take k (drop at value)) (take k (drop at mask)) && agrees (drop (offset + (at + k)) bytes) (drop (at + k) value) (drop (at + k) mask))
@@ -66,7 +66,7 @@ so_far_ends offset value mask from at steps l so_far = record {
   steps_agree = λ bytes b. sym (and_true (list_all (λ s. step_holds s bytes) steps)) ∙ ap (λ x. list_all (λ s. step_holds s bytes) steps && x) (sym (agrees-nothing (drop (offset + at) bytes) value mask at l)) ∙ so_far.same bytes b;
 }
 
--- a test of a step for the first bytes of a clause, and of steps for the others
+-- a test with a step for the first bytes of a clause, and steps for the others
 pub test_made : (c : Clause) (k : ℕ) (first : Step) (rest : List Step) → k ≤ length c.value → k ≤ length c.mask
     → IsStep c.offset (take k c.value) (take k c.mask) first → AreSteps (c.offset + k) (drop k c.value) (drop k c.mask) rest
     → IsTest c (record { negated = c.negated; first = first; rest = rest })
@@ -77,7 +77,7 @@ test_made c k first rest l h step steps = record {
       rw (cut, step.step_agrees bytes b, steps.steps_agree bytes b) refl;
 }
 
--- the tests of the clauses from a place on, and the clauses before it
+-- the tests of the clauses from index `at` on, with the clauses before it, agree with all clauses
 pub record TestsSoFar (all : List Clause) (at : ℕ) (tests : List Test) : Type 0 where
   pub same : (bytes : List ℕ) → IsBytes bytes → (tests_hold tests bytes && list_all (λ c. holds c bytes) (take at all)) ≡ list_all (λ c. holds c bytes) all
 
@@ -109,7 +109,7 @@ tests_end p all tests e so_far = record {
   tests_tell = λ bytes b. sym (and_true (tests_hold tests bytes)) ∙ so_far.same bytes b ∙ ap (λ cs. list_all (λ c. holds c bytes) cs) e;
 }
 
--- as many tests fail at first as patterns do
+-- the first tests that hold have the same index as the first pattern that matches
 same_prefix : (ps : List Pattern) (ready : List PatternTests) (bytes : List ℕ) (n : ℕ) → IsBytes bytes → AllZip ArePatternTests ps ready
     → prefix_len (λ t. not (pattern_holds t bytes)) (take n ready) ≡ prefix_len (λ q. not (matches q bytes)) (take n ps)
 same_prefix ps ready bytes zero b h = refl
@@ -127,11 +127,11 @@ same_length [] (t ∷ ready) (suc n) h = absurd h
 same_length (p ∷ ps) [] (suc n) h = absurd h
 same_length (p ∷ ps) (t ∷ ready) (suc n) h = ap suc (same_length ps ready n h.1)
 
--- a place within a length
+-- the index, if it is within the length
 abbrev placed : ℕ → ℕ → Option ℕ
 placed at len = cond (nat_lt at len) (Some at) None
 
--- the first tests that hold are those of the first pattern that matches
+-- the first pattern whose tests hold is the first one that matches
 pub first_same : (ps : List Pattern) (ready : List PatternTests) (bytes : List ℕ) (n : ℕ) → IsBytes bytes → AllZip ArePatternTests ps ready
     → first_matching (take n ready) bytes ≡ position (λ q. matches q bytes) (take n ps)
 first_same ps ready bytes n b h =

@@ -1,4 +1,4 @@
--- The ports that an element names are there.
+-- The ports that an element names exist.
 use Rattle.std.proofs.Common.{◌≡◌, ℕ, ◌+◌, ◌<◌, ◌≤◌, List, [], ◌∷◌, length, take, ◌==◌, nat_lt, Bool, true, false, Option, Some, None, if◌then◌else◌, min, max, refl, sym, ap, ◌∙◌, arith}
 use Rattle.std.specs.Prelude.{position}
 use Rattle.std.proofs.Math.Nat.{le-max_left, le-max_right}
@@ -20,7 +20,7 @@ use Rattle.click_classes.specs.declared.state.State.TheVariants as state
 use Rattle.click_classes.specs.declared.values.entry.Entry.{Entry}
 use Rattle.click_classes.specs.declared.values.pattern.Pattern.{Pattern}
 
--- ---- by the packet's fate
+-- ---- by the verdict on the packet
 
 pushed-there : (outputs : ℕ) (f : Verdict) → 1 ≤ outputs → AreThere outputs (pushed_to outputs f)
 pushed-there outputs verdict.Forward h c = h
@@ -34,7 +34,7 @@ copied-there outputs verdict.Copied c = grind (arith, nat_tests)
 copied-there outputs verdict.SideOutput c = grind (arith, nat_tests)
 copied-there outputs verdict.Dropped c = omega (arith, c)
 
--- ---- by what the state says
+-- ---- by the state
 
 either-there : (outputs : ℕ) (b : Bool) (x y : PushEffect) → AreThere outputs x.outputs → AreThere outputs y.outputs → AreThere outputs (if b then x else y).outputs
 either-there outputs b x y e f = cond_both b x y (λ (r : PushEffect). AreThere outputs r.outputs) (λ t. e) (λ t. f)
@@ -56,7 +56,7 @@ classified-below ps bytes k e = go (take 256 ps) refl
         let inside = (position-Some (λ r. matches r bytes) (take 256 ps) k q e).0 in
         grind (arith, nat_tests, inside, length-take 256 ps)
 
--- an entry that is the first or one of the rest names an output that is counted
+-- the output of the entry that is found, the first or one of the rest, is counted
 module _ (f e : Entry) (fs : List Entry) (a : List ℕ) (rest : route fs a ≡ Some e → e.output + 1 ≤ outputs_for fs) where
   abbrev most : ℕ
   most = max (f.output + 1) (outputs_for fs)

@@ -1,4 +1,4 @@
--- What packets do with an element's state leaves it fitting its ports.
+-- After each packet the state of an element still fits its ports.
 use Rattle.std.proofs.Common.{◌≡◌, ℕ, ◌<◌, ◌≤◌, Bool, true, false, Some, refl, sym, ap, ◌∙◌, subst, arith}
 use Rattle.std.proofs.lemmas.Bool.Decides.{nat_tests}
 use Rattle.click_packet.specs.Packet.{Packet}
@@ -11,7 +11,7 @@ use Rattle.click_classes.specs.declared.state.State.{State}
 use Rattle.click_classes.specs.declared.state.State.TheVariants as state
 use Rattle.click_classes.proofs.OfStates.StateSettings.{act-settings, gives-settings, stored-settings, emission-settings}
 
--- the classes whose states tell whose turn it is
+-- the classes whose states have a next port
 abbrev takes_turns : State → Bool
 takes_turns (state.RoundRobinSwitch n) = true
 takes_turns (state.RoundRobinSched n) = true
@@ -30,7 +30,7 @@ no-turn inputs outputs (state.RoundRobinSwitch n) e = cc
 no-turn inputs outputs (state.RoundRobinSched n) e = cc
 no-turn inputs outputs _ e = tt
 
--- a state with the settings of one that tells no turn tells none
+-- a state with the same settings as one without a next port has none either
 other : (inputs outputs : ℕ) (s t : State) → settings t ≡ settings s → takes_turns s ≡ false → HasTurn inputs outputs t
 other inputs outputs s t e f = no-turn inputs outputs t (sym (takes-settings t) ∙ ap takes_turns e ∙ takes-settings s ∙ f)
 
@@ -87,7 +87,7 @@ stored-fits inputs outputs s e is h = still inputs outputs s e.state (stored-set
 pub emission-fits : (inputs outputs : ℕ) (s : State) (e : Stored) → emission s ≡ Some e → FitsPorts inputs outputs s → FitsPorts inputs outputs e.state
 emission-fits inputs outputs s e is h = still inputs outputs s e.state (emission-settings s e is) (emission-turn inputs outputs s e is) h
 
--- a state that is as its arguments and handlers set it begins with the first port
+-- in a state that only arguments and handlers have set, the next port exists
 pub first-turn : (inputs outputs : ℕ) (s : State) → settings s ≡ s → (counts s).inputs.0 ≤ inputs → (counts s).outputs.0 ≤ outputs → HasTurn inputs outputs s
 first-turn inputs outputs (state.RoundRobinSwitch n) e i o = let first : 0 ≡ n = cc in omega (arith, first, o)
 first-turn inputs outputs (state.RoundRobinSched n) e i o = let first : 0 ≡ n = cc in omega (arith, first, i)

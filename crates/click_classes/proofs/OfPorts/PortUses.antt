@@ -1,4 +1,4 @@
--- A first state is of its class, and its counts allow some use.
+-- A first state is of its class, and some numbers of ports fit its counts.
 use Rattle.std.proofs.Common.{◌≡◌, ℕ, ◌+◌, ◌≤◌, List, [], ◌∷◌, ◌++◌, ◌==◌, length, max, Bool, true, false, Option, Some, None, Result, Ok, Err, refl, sym, arith, inl, inr}
 use Rattle.std.specs.Prelude.{MatchBool, if◌then◌else◌, ◌&&◌, ◌-◌, ◌^◌, nat_le, slice_get, slice_index_or, codes}
 use Rattle.std.specs.Str.{bytes_eq}
@@ -22,7 +22,7 @@ use Rattle.click_classes.specs.Steps.{◌>>=◌, each}
 use Rattle.click_classes.specs.Uses.{HasUse}
 use Rattle.click_classes.specs.Values.{number, within, number_in, number_or_minus_one, some, prefix, address, ethernet, truth}
 
--- a step that came to an end well
+-- if both steps succeed, the first one succeeds
 pub both_ok : {A B : Type 0} (r : Result A ArgFault) (f : A → Result B ArgFault) (b : B) → Ok b ≡ (r >>= f) → (a : A) × (r ≡ Ok a) × (Ok b ≡ f a)
 both_ok (Ok a) f b e = (a, refl, e)
 both_ok (Err g) f b e = cc
@@ -31,7 +31,7 @@ pub taken : {A : Type 0} (fits : Bool) (r : Result A ArgFault) (a : A) → Ok a 
 taken true r a e = e
 taken false r a e = cc
 
--- the words of arguments that are as many as they may be
+-- the first state, by the words of an allowed number of arguments
 abbrev AtWords : (List (List (List ℕ)) → Result State ArgFault) → List (List ℕ) → State → Type 0
 AtWords first args s = (words : List (List (List ℕ))) × AllZip AreWords args words × (Ok s ≡ first words)
 
@@ -79,7 +79,7 @@ port_bound : (args : List (List ℕ)) (k : Option ℕ) → Ok k ≡ switch_port 
 unfolding switch_port
 port_bound args k e = port_given (slice_get args 0) k (taken _ (given_or (Some 0) (number_or_minus_one 255) (slice_get args 0)) k e)
 
--- the outputs of entries
+-- the number of outputs that entries need
 outputs_push : (es : List Entry) (e : Entry) → outputs_for (es ++ e ∷ []) ≡ max (outputs_for es) (e.output + 1)
 outputs_push [] e = omega arith
 outputs_push (d ∷ es) e = let more = outputs_push es e in omega arith
@@ -121,7 +121,7 @@ outputs_bound es (words ∷ args) all h e =
     let fits : outputs_for next.0 ≤ 256 = rw (longer, outputs_push es first.0) (omega arith) in
     outputs_bound next.0 args all fits next.2
 
--- ranges that hold something
+-- ranges that are not empty
 ranges : (a b c d : ℕ) → a ≤ b → c ≤ d → HasUse (ports a b c d)
 ranges a b c d h k = record {
   inputs = a;
@@ -133,7 +133,7 @@ ranges a b c d h k = record {
   equal = λ e. cc;
 }
 
--- what is said of a first state
+-- what holds of a first state
 abbrev pub IsWell : Class → State → Type 0
 IsWell c s = (class s ≡ c) × HasUse (counts s)
 
@@ -160,7 +160,7 @@ up_to : (n : Option ℕ) → HasUse (ports 1 1 (up_to_256 n).0 (up_to_256 n).1)
 up_to None = ranges 1 1 1 256 (omega arith) (omega arith)
 up_to (Some n) = ranges 1 1 n n (omega arith) (omega arith)
 
--- of a class whose state holds what was read
+-- a class whose state holds what was read
 well_of : {A : Type 0} (r : Result A ArgFault) (c : Class) (state_of : A → State) (s : State) → Ok s ≡ (r >>= λ a. Ok (state_of a)) →
     ((a : A) → class (state_of a) ≡ c) → ((a : A) → Ok a ≡ r → HasUse (counts (state_of a))) → IsWell c s
 well_of r c state_of s h f u = let a = both_ok r _ s h in well c (state_of a.0) s a.2 (f a.0) (u a.0 (sym a.1))
@@ -183,7 +183,7 @@ well_infinite_source first args s h =
     let e = both_ok (optional args 3 true truth) _ s d.2 in
     well is.InfiniteSource (state.InfiniteSource a.0 b.0 d.0 e.0 0) s e.2 refl only_out
 
--- a first state is of its class, and its counts allow some use
+-- a first state is of its class, and some numbers of ports fit its counts
 pub first_well : (c : Class) (args : List (List ℕ)) (s : State) → IsFresh c args (Ok s) → IsWell c s
 unfolding queue front_drop_queue switch pull_switch tee pull_tee paint paint_tee strip check_length classifier get_ip_address static_ip_lookup check_ip_header from_device to_device
 first_well is.Queue args s h = well_of (capacity args) is.Queue (λ n. state.Queue (empty n) 0 0) s h (λ _. refl) (λ _ _. one_one)

@@ -11,7 +11,7 @@ use Rattle.click_classes.specs.declared.state.State.TheVariants as state
 abbrev pub kept_by : PacketList → ℕ → ℕ → Queued
 kept_by q drops highest = record { list = q; drops = drops; highest = highest }
 
--- what a queue keeps when a packet is pushed to it, and becomes this state
+-- what a push keeps of a queue, which is in state s afterwards
 abbrev pub Keeps : Queued → State → Type 0
 Keeps old s = (new : Queued) × (queue_of s ≡ Some new)
     × (length new.list.packets + new.drops ≡ length old.list.packets + old.drops + 1)
@@ -22,7 +22,7 @@ Keeps old s = (new : Queued) × (queue_of s ≡ Some new)
 pub counted : (drops : ℕ) → drops < 2 ^ 64 - 1 → up_by drops 1 ≡ drops + 1
 counted drops h = omega arith
 
--- it is stored last
+-- the packet is appended
 last : (q : PacketList) (drops highest : ℕ) (p : Packet) → (length q.packets == q.capacity) ≡ false
     → let new = record q { packets = q.packets ++ p ∷ [] } in
     (length new.packets + drops ≡ length q.packets + drops + 1)

@@ -1,4 +1,4 @@
--- Which packet a queue drops.
+-- The packet that a queue drops.
 use Rattle.std.proofs.Common.{◌≡◌, ℕ, ◌+◌, ◌-◌, ◌^◌, ◌<◌, List, [], ◌∷◌, ◌++◌, length, max, ◌==◌, false, Some, refl, sym, ap, ◌∙◌, subst, arith}
 use Rattle.std.proofs.lemmas.Bool.{eq-eqb, ne_eqb}
 use Rattle.click_packet.specs.Packet.{Packet}

@@ -12,7 +12,7 @@ use Rattle.click_classes.specs.declared.state.State.TheVariants as state
 use Rattle.click_classes.specs.declared.values.entry.Entry.{Entry}
 use Rattle.click_classes.proofs.OfStates.StateSettings.{one_of}
 
--- one of two results that are both sound
+-- one of two effects, both of which are sound
 acts : (b : Bool) (x y : PushEffect) → IsSound x.state → IsSound y.state → IsSound (if b then x else y).state
 acts b x y h k = cond_both b x y (λ (r : PushEffect). IsSound r.state) (λ t. h) (λ t. k)
 
@@ -29,7 +29,7 @@ pass-sound state.DecIPTTL p h = aged-sound p (ttl p.bytes)
 pass-sound (state.EtherEncap header) p h = passes (nat_le (length header + length p.bytes) 1600) _ _ tt tt
 pass-sound _ p h = h
 
--- a packet is stored last where there is room
+-- the packet is appended if there is room
 last : (q : PacketList) (highest : ℕ) (p : Packet) → (length q.packets == q.capacity) ≡ false → (length q.packets ≤ q.capacity) × (length q.packets ≤ highest)
     → (length (q.packets ++ p ∷ []) ≤ q.capacity) × (length (q.packets ++ p ∷ []) ≤ max (length q.packets + 1) highest)
 last q highest p t h =

@@ -1,4 +1,5 @@
--- Of entries the longest first, the first that covers an address is its route.
+-- If entries are sorted with the longest prefixes first, the first one that covers an address is
+-- its route.
 use Rattle.std.proofs.Common.{◌≡◌, ◌==◌, ℕ, zero, suc, ◌<◌, ◌≤◌, List, [], ◌∷◌, ◌++◌, true, false, Option, Some, None, nat_lt, refl, sym, ap, ◌∙◌, arith, inl, inr}
 use Rattle.std.specs.Prelude.{map, if◌then◌else◌}
 use Rattle.std.specs.List.{All, filter}
@@ -10,7 +11,7 @@ use Rattle.click_classes.specs.declared.routes.Row.{Row}
 use Rattle.click_classes.specs.Routes.{covers, longer, route}
 use Rattle.click_classes.specs.kept.Rows.{IsAddress, word, IsShort, has_len, longest_first, entry_of, IsReady, first_found}
 
--- the first of two that is there
+-- the first of two options that has a value
 either : Option Entry → Option Entry → Option Entry
 either None o = o
 either (Some e) o = Some e
@@ -69,7 +70,7 @@ first_covering-has_len n (d ∷ es) a e h = elim (cases_Bool (d.prefix.len == n)
   | inr b ↦ let g = rw b at h in first_covering-has_len n es a e g
 ]
 
--- a shorter entry before others
+-- an entry with a shorter prefix before others
 before_longer : (n : ℕ) (d : Entry) (o p : Option Entry) → d.prefix.len < n → ((x : Entry) → o ≡ Some x → x.prefix.len ≡ n) → Some (longer d (either o p)) ≡ either o (Some (longer d p))
 unfolding either
 before_longer n d None p l h = refl
@@ -78,7 +79,7 @@ before_longer n d (Some x) p l h =
     let b : nat_lt d.prefix.len x.prefix.len ≡ true = grind (arith, nat_tests) in
     rw b refl
 
--- an entry before others that are no longer
+-- an entry before others whose prefixes are no longer
 before_shorter : (n : ℕ) (d : Entry) (o : Option Entry) → d.prefix.len ≡ n → ((x : Entry) → o ≡ Some x → x.prefix.len < suc n) → longer d o ≡ d
 before_shorter n d None l h = refl
 before_shorter n d (Some x) l h =
@@ -86,7 +87,7 @@ before_shorter n d (Some x) l h =
     let b : nat_lt d.prefix.len x.prefix.len ≡ false = grind (arith, nat_tests) in
     rw b refl
 
--- those of length n are asked before the shorter ones
+-- entries with prefixes of length n come before those with shorter ones
 one_length : (n : ℕ) (es : List Entry) (a : List ℕ) → route (shorter (suc n) es) a ≡ either (first_covering (filter (has_len n) es) a) (route (shorter n es) a)
 unfolding either first_covering
 one_length n [] a = refl
@@ -143,7 +144,7 @@ first_row (r ∷ rs) a i h =
     let ready : IsReady r = All-head IsReady r rs h in
     rw (ready.fits_covers a i, first_row rs a i (All-tail IsReady r rs h)) refl
 
--- the first of the rows that fits is the route
+-- the first row that fits an address is its route
 pub rows_route : (rs : List Row) (es : List Entry) → All IsReady rs → All IsShort es → map entry_of rs ≡ longest_first 33 es → (a : List ℕ) → IsAddress a → first_found rs (word a) ≡ route es a
 rows_route rs es ready short same a i =
     first_row rs a i ready ∙ ap (λ fs. first_covering fs a) same ∙ first_is_route 33 es a ∙ ap (λ fs. route fs a) (all_shorter es short)

@@ -15,7 +15,7 @@ covers-Covers p a h = (bytes_eq-Decides (cleared p.len a) p.network).0 h
 Covers-covers : (p : Prefix) (a : List ℕ) → Covers p a → covers p a ≡ true
 Covers-covers p a h = (bytes_eq-Decides (cleared p.len a) p.network).1 h
 
--- ---- none is found
+-- ---- no entry is found
 
 none-step : (d : Entry) (es : List Entry) (a : List ℕ) → covers d.prefix a ≡ false
     → ((k : ℕ) (f : Entry) → slice_get es k ≡ Some f → Covers f.prefix a → ⊥)
@@ -33,7 +33,7 @@ route-none (d ∷ es) a h k f g c = elim (cases_Bool (covers d.prefix a)) [
   | inr t ↦ let u = rw t at h in none-step d es a t (λ j e i b. route-none es a u j e i b) k f g c
 ]
 
--- ---- one is found
+-- ---- an entry is found
 
 longest-first : (d : Entry) (es : List Entry) (a : List ℕ)
     → ((k : ℕ) (f : Entry) → slice_get es k ≡ Some f → Covers f.prefix a → f.prefix.len ≤ d.prefix.len)

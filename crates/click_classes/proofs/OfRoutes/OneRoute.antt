@@ -12,7 +12,7 @@ use Rattle.click_classes.specs.Routes.{IsRoute}
 use Rattle.click_classes.specs.Values.{cleared}
 use Rattle.click_classes.proofs.OfPorts.PortUses.{both_ok, with_entry_is}
 
--- no two entries have one prefix
+-- entries with the same prefix are the same
 pub record AreApart (es : List Entry) : Type 0 where
   pub apart : (i j : ℕ) (e f : Entry) → slice_get es i ≡ Some e → slice_get es j ≡ Some f → e.prefix.len ≡ f.prefix.len → e.prefix.network ≡ f.prefix.network → e ≡ f
 
@@ -22,7 +22,7 @@ same p q l n =
     let b : bytes_eq p.network q.network ≡ true = (bytes_eq-Decides p.network q.network).1 n in
     rw (a, b) refl
 
--- an entry of the table has not the prefix that none has
+-- if no entry of a table has the prefix p, an entry of it has another prefix
 has_not : (es : List Entry) (i : ℕ) (e : Entry) (p : Prefix) → has_prefix es p ≡ false → slice_get es i ≡ Some e → e.prefix.len ≡ p.len → e.prefix.network ≡ p.network → ⊥
 has_not [] i e p h g l n = cc
 has_not (d ∷ es) zero e p h g l n =
@@ -35,7 +35,7 @@ has_not (d ∷ es) (suc i) e p h g l n = elim (cases_Bool (same_prefix d.prefix 
   | inr t ↦ let u = rw t at h in has_not es i e p u g l n
 ]
 
--- an entry of a longer table is of the table or is the last
+-- an entry of a longer table is in the table or is the last one
 in_longer : (es : List Entry) (x : Entry) (i : ℕ) (e : Entry) → slice_get (es ++ x ∷ []) i ≡ Some e → (slice_get es i ≡ Some e) ⊎ (e ≡ x)
 in_longer [] x zero e h = inr (cc)
 in_longer [] x (suc i) e h = cc

@@ -1,4 +1,4 @@
--- The prefixes of a table have lengths up to 32.
+-- The prefixes of a table have lengths of at most 32.
 use Rattle.std.proofs.Common.{◌≡◌, ◌==◌, ℕ, ◌+◌, ◌≤◌, List, [], ◌∷◌, length, Option, Some, None, Result, Ok, Err, take, drop, refl, sym, arith, inl, inr}
 use Rattle.std.specs.Prelude.{nat_le, position}
 use Rattle.std.specs.List.{All}

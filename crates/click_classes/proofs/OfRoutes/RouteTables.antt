@@ -13,25 +13,25 @@ use Rattle.click_classes.specs.Entries.{same_prefix, has_prefix}
 use Rattle.click_classes.specs.declared.values.entry.Entry.{Entry}
 use Rattle.click_classes.specs.Ports.{outputs_for}
 
--- what a read past the end gives
+-- the value of a read after the end
 abbrev pub blank : Entry
 blank = record { prefix = record { network = []; len = 0 }; gateway = None; output = 0 }
 
--- one entry further
+-- one more entry
 pub outputs_more : (es : List Entry) (d : Entry) (i most new all : ℕ) → i < length es → new ≡ max most ((get_or es i d).output + 1) → max most (outputs_for (drop i es)) ≡ all → max new (outputs_for (drop (i + 1) es)) ≡ all
 outputs_more es d i most new all h e f =
     let next : outputs_for (drop i es) ≡ max ((get_or es i d).output + 1) (outputs_for (drop (i + 1) es)) = at_drop_more outputs_for es i d h in
     omega arith
 
--- by network, and then by length
+-- prefixes are compared by network, and then by length
 abbrev pub prefix_cmp : Prefix → Prefix → Ordering
 prefix_cmp p q = ordering_then (slice_cmp nat_cmp p.network q.network) (nat_cmp p.len q.len)
 
--- numbers compare alike where they are equal
+-- numbers compare as equal exactly if they are equal
 is_eq-nat_cmp : (m n : ℕ) → is_eq (nat_cmp m n) ≡ (m == n)
 is_eq-nat_cmp m n = grind (arith, nat_tests)
 
--- prefixes compare alike where they are the same
+-- prefixes compare as equal exactly if they are the same
 is_eq-prefix_cmp : (p q : Prefix) → is_eq (prefix_cmp p q) ≡ same_prefix p q
 is_eq-prefix_cmp p q =
     let networks = is_eq-slice_cmp p.network q.network in
@@ -39,7 +39,7 @@ is_eq-prefix_cmp p q =
     let both = tied_then (slice_cmp nat_cmp p.network q.network) (nat_cmp p.len q.len) in
     grind (arith, networks, lens, both)
 
--- a set of the prefixes of the entries, with a further one
+-- the set of the entries' prefixes, with one more
 pub seen_more : (s n : BTreeSet Prefix) (es : List Entry) (e : Entry) → ((q : Prefix) → contains prefix_cmp s q ≡ has_prefix es q) → Updates prefix_cmp s n e.prefix true → (q : Prefix) → contains prefix_cmp n q ≡ has_prefix (es ++ e ∷ []) q
 seen_more s n es e h u q =
     let now = u.0 q in

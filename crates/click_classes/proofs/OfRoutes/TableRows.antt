@@ -19,7 +19,7 @@ module _ (rs : List Row) (i w : ℕ) (d : Row) (within : i < length rs) where
       rw t at next
 
 module _ (rs : List Row) (es : List Entry) (i n : ℕ) (d : Entry) (within : i < length es) where
-  -- an entry of the length gets a row
+  -- an entry of this length gets a row
   pub row_more : (r : Row) → entry_of r ≡ get_or es i d → has_len n (get_or es i d) ≡ true
       → map entry_of (rs ++ r ∷ []) ++ filter (has_len n) (drop (i + 1) es) ≡ map entry_of rs ++ filter (has_len n) (drop i es)
   row_more r same t =
@@ -32,7 +32,7 @@ module _ (rs : List Row) (es : List Entry) (i n : ℕ) (d : Entry) (within : i <
       let next : filter (has_len n) (drop i es) ≡ filter (has_len n) (get_or es i d ∷ drop (i + 1) es) = at_drop_more (λ l. filter (has_len n) l) es i d within in
       rw t at next
 
--- the entries of one length further
+-- the entries of one more length
 pub length_more : (rs more : List Row) (es all : List Entry) (n m : ℕ) → m ≡ suc n → map entry_of more ≡ map entry_of rs ++ filter (has_len n) es
     → map entry_of rs ++ longest_first m es ≡ all → map entry_of more ++ longest_first n es ≡ all
 unfolding longest_first

@@ -1,4 +1,4 @@
--- A first state has nothing that packets change.
+-- A first state has settings only, and nothing that packets have changed.
 use Rattle.std.proofs.Common.{◌≡◌, ℕ, ◌-◌, ◌^◌, List, Bool, true, false, Option, None, Result, Ok, refl, ap, subst, arith}
 use Rattle.std.specs.Prelude.{◌&&◌, length, nat_le, slice_get}
 use Rattle.click_base.specs.declared.class.Class.{Class}

@@ -1,4 +1,4 @@
--- An element of a class with some arguments has one first state, or one first fault.
+-- An element of a class with certain arguments has only one first state, or only one first fault.
 use Rattle.std.proofs.Common.{◌≡◌, ◌⊎◌, ℕ, List, map, Bool, true, false, Option, Some, None, Result, Ok, Err, sym, ◌∙◌, ap, inl, inr}
 use Rattle.std.specs.Prelude.{MatchBool}
 use Rattle.std.specs.List.{AllZip}
@@ -38,19 +38,19 @@ one_fresh class.CheckIPHeader args r s a b = one_by_words _ check_ip_header args
 one_fresh class.InfiniteSource args r s a b = one_by_first _ _ (λ first. infinite_source first args) r s a b
 one_fresh _ args r s a b = a ∙ sym b
 
--- an element has one first state
+-- a class and a text have only one result
 pub one_made : (c : Class) (text : List ℕ) (r s : Result State ArgFault) → IsMade c text r → IsMade c text s → r ≡ s
 one_made c text r s a b =
     let e = one_arguments text a.spans b.spans a.cut b.cut in
     one_fresh c (map (bytes_at text) a.spans) r s a.fresh (rw e b.fresh)
 
--- what a call answers of these arguments it answers of the text
+-- the result for the arguments of a text is the result for the text
 pub made_by : (c : Class) (text : List ℕ) (spans : List Span) (r : Result State ArgFault) → AreArguments text spans → OrNoMemory (IsFresh c (map (bytes_at text) spans)) r → OrNoMemory (IsMade c text) r
 made_by c text spans (Ok s) a f = record { spans = spans; cut = a; fresh = f }
 made_by c text spans (Err f) a (inl e) = inl e
 made_by c text spans (Err f) a (inr e) = inr (record { spans = spans; cut = a; fresh = e })
 
--- what is so is answered, unless memory ran out
+-- the result that the definition states is returned, unless the call ran out of memory
 pub only_made : (c : Class) (text : List ℕ) (result r : Result State ArgFault) → OrNoMemory (IsMade c text) result → IsMade c text r → (result ≡ r) ⊎ (result ≡ Err fault.NoMemory)
 only_made c text (Ok s) r a b = inl (one_made c text (Ok s) r a b)
 only_made c text (Err f) r (inl e) b = inr (ap Err e)

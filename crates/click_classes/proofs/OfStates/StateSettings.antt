@@ -1,4 +1,4 @@
--- Packets keep an element's settings.
+-- Packets keep the settings of an element.
 use Rattle.std.proofs.Common.{◌≡◌, ℕ, ◌+◌, List, [], ◌∷◌, length, ◌==◌, nat_le, Bool, true, false, Option, Some, None, if◌then◌else◌, refl, sym, ap, ◌∙◌}
 use Rattle.std.proofs.lemmas.Bool.{cond_both}
 use Rattle.click_packet.specs.Header.{ttl}
@@ -12,7 +12,7 @@ use Rattle.click_classes.specs.declared.state.State.{State}
 use Rattle.click_classes.specs.declared.state.State.TheVariants as state
 use Rattle.click_classes.specs.declared.values.entry.Entry.{Entry}
 
--- one of two results that both keep them
+-- one of two effects, both of which keep the settings
 acts : (s : State) (b : Bool) (x y : PushEffect) → settings x.state ≡ settings s → settings y.state ≡ settings s → settings (if b then x else y).state ≡ settings s
 acts s b x y e f = cond_both b x y (λ (r : PushEffect). settings r.state ≡ settings s) (λ t. e) (λ t. f)
 

@@ -1,4 +1,4 @@
--- What is taken over.
+-- What an element takes over.
 use Rattle.std.proofs.Common.{◌≡◌, ℕ, ◌+◌, ◌<◌, ◌≤◌, nat_lt, length, take, true, false, Option, Some, None, if◌then◌else◌, inl, inr, refl, ap, ◌∙◌, arith, length-take}
 use Rattle.std.proofs.lemmas.Bool.{cases_lt}
 use Rattle.std.proofs.lemmas.Bool.Decides.{nat_tests}
@@ -55,7 +55,7 @@ position-fits outputs own (Some k) fits = elim (cases_lt k outputs) [
   | inr past ↦ rw (position-past outputs k own past) fits
 ]
 
--- all else begins anew
+-- all other elements keep their first state
 
 pub other_class : (outputs : ℕ) (s old : State) → (class s ≡ class old → ⊥) → taken_over outputs s old ≡ s
 other_class outputs (state.Queue a d h) (state.Queue b e i) ne = absurd (ne refl)
@@ -71,7 +71,7 @@ anew outputs (state.Counter n b) (state.Counter m c) x y z w = absurd (z refl)
 anew outputs (state.Switch own) (state.Switch k) x y z w = absurd (w refl)
 anew outputs _ _ x y z w = refl
 
--- what stays as it was
+-- what a hot swap keeps
 
 pub keeps_class : (outputs : ℕ) (s old : State) → class (taken_over outputs s old) ≡ class s
 keeps_class outputs (state.Queue a d h) (state.Queue b e i) = refl
@@ -108,7 +108,8 @@ stays_sound outputs (state.Counter n b) (state.Counter m c) sound = tt
 stays_sound outputs (state.Switch own) (state.Switch k) sound = tt
 stays_sound outputs _ _ sound = sound
 
--- An element that takes over from a Counter or a fitting Switch of its class and its number of outputs is in that one's state.
+-- After taking over, a Counter is in the state of the old one, and so is a Switch if the old one
+-- fitted the same number of outputs.
 
 pub counter-goes-on : (outputs : ℕ) (s old : State) → class s ≡ class old → class old ≡ kind.Counter → taken_over outputs s old ≡ old
 counter-goes-on outputs (state.Counter n b) (state.Counter m c) same is = refl

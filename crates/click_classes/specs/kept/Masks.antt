@@ -1,4 +1,4 @@
--- How patterns are kept ready: as steps that compare eight bytes at once.
+-- The prepared form of patterns: steps that compare eight bytes at once.
 use Rattle.std.specs.Prelude.{◌≡◌, ℕ, zero, suc, ◌+◌, ◌-◌, ◌*◌, ◌<◌, ◌==◌, List, length, drop, Bool, not, ◌&&◌, nat_le, bit_and, slice_index, position, Option, if◌then◌else◌}
 use Rattle.std.specs.List.{list_all}
 use Rattle.click_classes.specs.declared.values.pattern.Clause.{Clause}
@@ -11,16 +11,16 @@ use Rattle.click_classes.specs.Matches.{agrees, holds, matches}
 abbrev pub IsBytes : List ℕ → Type 0
 IsBytes bytes = (i : ℕ) → slice_index bytes i < 256
 
--- so many bytes as a number, the first the lowest
+-- n bytes as a number, the first byte lowest
 unfoldable pub word : (ℕ → ℕ) → ℕ → ℕ
 word byte zero = 0
 word byte (suc n) = word (λ i. byte (suc i)) n * 256 + byte 0
 
--- the bytes from a place on
+-- the bytes from an offset on
 abbrev pub at_place : ℕ → List ℕ → ℕ → ℕ
 at_place at bytes i = slice_index bytes (at + i)
 
--- bytes that stand behind others, which are 0
+-- the bytes after `lead` others, which are 0
 abbrev pub behind : ℕ → List ℕ → ℕ → ℕ
 behind lead bytes i = if nat_le lead i then slice_index bytes (i - lead) else 0
 
@@ -37,7 +37,7 @@ test_holds t bytes = let found = step_holds t.first bytes && list_all (λ s. ste
 abbrev pub tests_hold : List Test → List ℕ → Bool
 tests_hold ts bytes = list_all (λ t. test_holds t bytes) ts
 
--- a step, steps, a test and tests say what they stand for
+-- a step, steps, a test and tests agree with the clause or pattern that they were made from
 pub record IsStep (offset : ℕ) (value mask : List ℕ) (s : Step) : Type 0 where
   pub step_agrees : (bytes : List ℕ) → IsBytes bytes → step_holds s bytes ≡ agrees (drop offset bytes) value mask
 
@@ -50,13 +50,13 @@ pub record IsTest (c : Clause) (t : Test) : Type 0 where
 pub record AreTests (p : Pattern) (ts : List Test) : Type 0 where
   pub tests_tell : (bytes : List ℕ) → IsBytes bytes → tests_hold ts bytes ≡ matches p bytes
 
--- the tests with the step before them
+-- the head step holds, and then the tests
 abbrev pub pattern_holds : PatternTests → List ℕ → Bool
 pattern_holds t bytes = step_holds t.head bytes && tests_hold t.tests bytes
 
 pub record ArePatternTests (p : Pattern) (t : PatternTests) : Type 0 where
   pub pattern_tells : (bytes : List ℕ) → IsBytes bytes → pattern_holds t bytes ≡ matches p bytes
 
--- the place of the first pattern whose tests hold
+-- the index of the first pattern whose tests hold
 abbrev pub first_matching : List PatternTests → List ℕ → Option ℕ
 first_matching ready bytes = position (λ t. pattern_holds t bytes) ready

@@ -1,11 +1,12 @@
--- How a packet list keeps its packets: in a ring of slots.
+-- The ring of slots in which a packet list stores its packets.
 use Rattle.std.specs.Prelude.{◌≡◌, ℕ, ◌+◌, ◌<◌, ◌≤◌, ◌^◌, List, ◌++◌, take, drop}
 
--- the n slots from first on, around the end
+-- the n slots from index `first` on, continued at index 0
 abbrev pub window : {X : Type 0} → ℕ → ℕ → List X → List X
 window first n slots = take n (drop first slots ++ take first slots)
 
--- count packets from first on, in a ring of `made` slots, which grows up to `room` within its capacity and wraps only then
+-- `count` packets from index `first` on, in a ring of `made` slots; the ring grows up to `room`
+-- within its capacity, and wraps around only when it has `room` slots
 pub record IsRing (first count made room capacity : ℕ) : Type 0 where
   pub count_in : count ≤ made
   pub first_in : first ≤ made

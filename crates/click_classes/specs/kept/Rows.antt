@@ -1,4 +1,4 @@
--- How a table is kept ready: its entries with masks and words, the longest prefixes first.
+-- The prepared form of a table: its entries with masks and words, the longest prefixes first.
 use Rattle.std.specs.Prelude.{◌≡◌, ℕ, zero, suc, ◌<◌, ◌≤◌, ◌==◌, List, [], ◌∷◌, ◌++◌, length, Bool, Option, Some, None, bit_and, slice_index, if◌then◌else◌}
 use Rattle.std.specs.List.{filter}
 use Rattle.std.specs.Int.{w32, from_be_bytes}
@@ -6,7 +6,7 @@ use Rattle.click_classes.specs.declared.values.entry.Entry.{Entry}
 use Rattle.click_classes.specs.declared.routes.Row.{Row}
 use Rattle.click_classes.specs.Routes.{covers}
 
--- four bytes
+-- an address has four bytes
 pub record IsAddress (a : List ℕ) : Type 0 where
   pub four : length a ≡ 4
   pub bytes : (i : ℕ) → slice_index a i < 256
@@ -29,15 +29,15 @@ longest_first (suc n) es = filter (has_len n) es ++ longest_first n es
 abbrev pub entry_of : Row → Entry
 entry_of r = r.entry
 
--- the bits of an address are those of the row
+-- the address has the bits of the row's network
 abbrev pub fits : Row → ℕ → Bool
 fits r w = bit_and w r.mask == r.network
 
--- that is so just where the address has the prefix of the row's entry
+-- the address has the bits of the row exactly if it has the prefix of the row's entry
 pub record IsReady (r : Row) : Type 0 where
   pub fits_covers : (a : List ℕ) → IsAddress a → fits r (word a) ≡ covers r.entry.prefix a
 
--- the entry of the first row whose bits an address has
+-- the entry of the first row whose bits the address has
 abbrev pub first_found : List Row → ℕ → Option Entry
 first_found [] w = None
 first_found (r ∷ rs) w = if fits r w then Some r.entry else first_found rs w

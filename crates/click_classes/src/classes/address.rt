@@ -1,4 +1,4 @@
-//! Elements that set the destination of packets.
+//! The class that sets the destination of packets: GetIPAddress.
 
 ghost use Rattle.std.specs.Prelude.{◌≡◌};
 ghost use Rattle.click_classes.specs.Made.{get_ip_address};
@@ -9,14 +9,32 @@ use crate::fault::ArgFault;
 use crate::state::State;
 use click_packet::Packet;
 
-/// GetIPAddress(OFFSET): reads the destination out of packets.
+/// `GetIPAddress(OFFSET)` sets the destination of packets from their bytes.
 ///
 /// - Arguments: OFFSET, a number from 0 to 1,596.
 /// - Ports: one agnostic input, one agnostic output.
-/// - The packet's destination becomes the four bytes from OFFSET on, 0.0.0.0 where the packet is shorter.
+/// - The destination of the packet becomes its four bytes from OFFSET on, or 0.0.0.0 if it is
+///   shorter.
 /// - Handlers: none.
 ///
-/// Example: `FromDevice(a) -> GetIPAddress(16) -> StaticIPLookup(0.0.0.0/0 0) -> Discard;`
+/// ```click
+/// FromDevice(a) -> GetIPAddress(16) -> StaticIPLookup(0.0.0.0/0 0) -> Discard;
+/// ```
+///
+/// ```calls
+/// FromDevice(a) -> GetIPAddress(0) -> Queue -> ToDevice(x);
+/// FromDevice(b) -> GetIPAddress(1) -> Queue -> ToDevice(y);
+/// > arrive a 63646566
+/// entered 1
+/// > transmit x
+/// sent 63646566 0 99.100.101.102
+/// > poll b 00c0a8010a,00c0a801
+/// entered 2
+/// > transmit y
+/// sent 00c0a8010a 0 192.168.1.10
+/// > transmit y
+/// sent 00c0a801 0 0.0.0.0
+/// ```
 #[tactic(auto, unfolding(crate::specs::Made::get_ip_address))]
 pub fn make_get_ip_address(arguments: &Arguments) -> Result<State, ArgFault>
     ensures { result ≡ get_ip_address arguments.now }
@@ -27,7 +45,7 @@ pub fn make_get_ip_address(arguments: &Arguments) -> Result<State, ArgFault>
     })
 }
 
-/// Makes the four bytes from the offset on a packet's destination; 0.0.0.0 where the packet is shorter.
+/// Sets the packet's destination to the four bytes at the offset, or to 0.0.0.0 if it is too short.
 pub fn take_address(offset: u16, packet: &mut Packet)
     ensures { packet.new ≡ record packet.old { destination = address_at offset packet.old.bytes } }
 {

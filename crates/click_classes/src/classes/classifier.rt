@@ -1,4 +1,4 @@
-//! Elements that sort packets by their bytes.
+//! The class that sorts packets by their bytes: Classifier.
 
 ghost use Rattle.click_classes.specs.Made.{classifier, ByWords};
 ghost use Rattle.click_classes.specs.Patterns.{pattern};
@@ -16,7 +16,7 @@ use click_base::sequence::Sequence;
 use click_packet::Packet;
 use std::alloc::Global;
 
-/// The pattern of each argument, which is given by its words.
+/// Returns the pattern of each argument. Each argument is given by its words.
 pub fn patterns(
     alloc: Global,
     arguments: &[Sequence<Sequence<u8>>],
@@ -31,17 +31,47 @@ pub fn patterns(
     Ok(list)
 }
 
-/// Classifier(PATTERN, ..): sorts packets by their bytes.
+/// `Classifier(PATTERN, ..)` sorts packets by their bytes.
 ///
-/// - Arguments: 1 to 256 patterns. A pattern is `-`, which each packet matches, or clauses with white space between them,
-///   all of which have to hold. A clause is `[!]OFFSET/DIGITS[%MASK]`: the packet's bytes from OFFSET (0 to 1,599, in
-///   decimal) on are there and agree with DIGITS (an even number of 2 to 128 hexadecimal digits or `?`) in each bit that
-///   MASK (as many hexadecimal digits) has and that is not under a `?`; with `!` that is not so.
-/// - Ports: one push input; as many push outputs as there are patterns.
-/// - A packet goes to the output of the first pattern that it matches; one that matches none is dropped.
+/// - Arguments: 1 to 256 patterns. A pattern is `-`, which every packet matches, or clauses with
+///   white space between them, all of which have to hold. A clause is `[!]OFFSET/DIGITS[%MASK]`.
+///   OFFSET is a number from 0 to 1,599 in decimal digits. DIGITS is an even number of hexadecimal
+///   digits or `?`, from 2 to 128. MASK is as many hexadecimal digits. The clause holds if the
+///   packet has these bytes, from OFFSET on, and they agree with DIGITS. Bits that are not set in
+///   MASK, or are under a `?`, are ignored. With `!` the clause holds if this is not so.
+/// - Ports: one push input; one push output for each pattern.
+/// - A packet goes to the output of the first pattern that it matches. If it matches none, it is
+///   dropped.
 /// - Handlers: none.
 ///
-/// Example: `FromDevice(a) -> k :: Classifier(12/0800, -); k -> Discard; k [1] -> Discard;`
+/// ```click
+/// FromDevice(a) -> k :: Classifier(12/0800, -); k -> Discard; k [1] -> Discard;
+/// ```
+///
+/// ```calls
+/// FromDevice(a) -> k :: Classifier(12/0800, !12/08??, 12/0?06%0f0f); k -> Queue -> ToDevice(x);
+/// k [1] -> Queue -> ToDevice(y); k [2] -> Queue -> ToDevice(z);
+/// > poll a 0000000000000000000000000800,00000000000000000000000086dd,0000000000000000000000000806
+/// entered 3
+/// > poll a 0000000000000000000000000896,0000000000000000000000000807,00000000000000000000000008
+/// entered 3
+/// > transmit x
+/// sent 0000000000000000000000000800 0 0.0.0.0
+/// > transmit x
+/// sent none
+/// > transmit y
+/// sent 00000000000000000000000086dd 0 0.0.0.0
+/// > transmit y
+/// sent 00000000000000000000000008 0 0.0.0.0
+/// > transmit y
+/// sent none
+/// > transmit z
+/// sent 0000000000000000000000000806 0 0.0.0.0
+/// > transmit z
+/// sent 0000000000000000000000000896 0 0.0.0.0
+/// > transmit z
+/// sent none
+/// ```
 #[tactic(auto, unfolding(crate::specs::Made::classifier))]
 pub fn make_classifier(alloc: Global, arguments: &Arguments) -> Result<State, ArgFault>
     ensures { OrNoMemory (ByWords 1 256 classifier arguments.now) result }
@@ -55,7 +85,7 @@ pub fn make_classifier(alloc: Global, arguments: &Arguments) -> Result<State, Ar
     Ok(State::Classifier { patterns })
 }
 
-/// The output of the first pattern that a packet matches, of 256 at most.
+/// Returns the output of the first pattern that the packet matches, among at most 256 patterns.
 pub fn classify(patterns: &Patterns, packet: &Packet) -> Option<usize>
     ensures output { result ≡ classified patterns.now packet.now.bytes }
     ensures bound { IfSome result (λ output. output < 256) }

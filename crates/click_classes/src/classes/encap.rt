@@ -1,4 +1,4 @@
-//! Elements that put a header before packets.
+//! The class that puts a header before packets: EtherEncap.
 
 ghost use Rattle.std.specs.Prelude.{◌≡◌, if◌then◌else◌};
 ghost use Rattle.click_classes.specs.Made.{ether_encap, ether_header};
@@ -13,15 +13,27 @@ use crate::values::ethernet::ethernet;
 use crate::values::number::number_in;
 use click_packet::Packet;
 
-/// EtherEncap(TYPE, SOURCE, DESTINATION): puts an Ethernet header before packets.
+/// `EtherEncap(TYPE, SOURCE, DESTINATION)` adds an Ethernet header to packets.
 ///
 /// - Arguments: TYPE, a number from 0 to 65,535; SOURCE and DESTINATION, Ethernet addresses.
 /// - Ports: one agnostic input, one agnostic output.
-/// - DESTINATION, SOURCE and TYPE (the high byte first) are put before the packet's bytes. A packet that would have more
-///   than 1,600 bytes is dropped.
+/// - DESTINATION, SOURCE and TYPE (the high byte first) are put before the bytes of the packet. A
+///   packet that would have more than 1,600 bytes is dropped.
 /// - Handlers: none.
 ///
-/// Example: `FromDevice(a) -> EtherEncap(0x0800, 1:1:1:1:1:1, 2:2:2:2:2:2) -> Discard;`
+/// ```click
+/// FromDevice(a) -> EtherEncap(0x0800, 1:1:1:1:1:1, 2:2:2:2:2:2) -> Discard;
+/// ```
+///
+/// ```calls
+/// FromDevice(a) -> EtherEncap(0x0800, 1:1:1:1:1:1, 2:2:2:2:2:2) -> Queue -> ToDevice(x);
+/// > poll a aa,-
+/// entered 2
+/// > transmit x
+/// sent 0202020202020101010101010800aa 0 0.0.0.0
+/// > transmit x
+/// sent 0202020202020101010101010800 0 0.0.0.0
+/// ```
 #[tactic(auto, unfolding(crate::specs::Made::ether_encap))]
 pub fn make_ether_encap(arguments: &Arguments) -> Result<State, ArgFault>
     ensures { result ≡ ether_encap arguments.now }
@@ -37,7 +49,7 @@ pub fn make_ether_encap(arguments: &Arguments) -> Result<State, ArgFault>
     })
 }
 
-/// The fourteen bytes of a header: destination, source, and the type with its high byte first.
+/// Returns the 14 bytes of a header: destination, source, and the type with its high byte first.
 fn ether_header(ether_type: u16, source: [u8; 6], destination: [u8; 6]) -> [u8; 14]
     ensures { result ≡ ether_header ether_type source destination }
 {
@@ -51,7 +63,7 @@ fn ether_header(ether_type: u16, source: [u8; 6], destination: [u8; 6]) -> [u8; 
     ]
 }
 
-/// Puts a header before a packet, and says whether it fits; a packet that would be too long with it stays as it is.
+/// Prepends a header to the packet. Returns false, and changes nothing, if it would be too long.
 #[inline(always)]
 pub fn encapsulate(header: &[u8; 14], packet: &mut Packet) -> bool
     ensures { (state : State) → encapsulated state header.now packet.old ≡ passed state packet.new (if result then Verdict.Forward else Verdict.Dropped) }

@@ -1,4 +1,4 @@
-//! Elements that look at the internet header.
+//! The classes that read the internet header: CheckIPHeader and DecIPTTL.
 
 ghost use Rattle.std.specs.Prelude.{◌≡◌, ◌==◌, [], Ok, length, slice_index_or, if◌then◌else◌, Option, Some};
 ghost use Rattle.click_classes.specs.Values.{address};
@@ -18,7 +18,7 @@ use click_base::sequence::Sequence;
 use click_packet::Packet;
 use std::alloc::Global;
 
-/// The address of each word.
+/// Returns the address that each word spells.
 fn each_address(alloc: Global, words: &[Sequence<u8>]) -> Result<Sequence<[u8; 4]>, ArgFault>
     ensures { IsOrNoMemory (each address words.now) result }
 {
@@ -30,7 +30,7 @@ fn each_address(alloc: Global, words: &[Sequence<u8>]) -> Result<Sequence<[u8; 4
     Ok(list)
 }
 
-/// Up to 64 addresses.
+/// Returns the addresses that up to 64 words spell.
 #[tactic(auto, unfolding(crate::specs::Made::addresses))]
 fn addresses(alloc: Global, words: &[Sequence<u8>]) -> Result<Sequence<[u8; 4]>, ArgFault>
     ensures { IsOrNoMemory (addresses words.now) result }
@@ -41,7 +41,7 @@ fn addresses(alloc: Global, words: &[Sequence<u8>]) -> Result<Sequence<[u8; 4]>,
     each_address(alloc, words)
 }
 
-/// The addresses of the argument, if it is there.
+/// Returns the addresses of the first argument, or none if there is no argument.
 pub fn refused(
     alloc: Global,
     arguments: &[Sequence<Sequence<u8>>],
@@ -54,16 +54,43 @@ pub fn refused(
     addresses(alloc, arguments[0].as_slice())
 }
 
-/// CheckIPHeader([ADDRESSES]): sorts out packets with a bad internet header (RFC 791, section 3.1).
+/// `CheckIPHeader([ADDRESSES])` checks the IPv4 header of packets (RFC 791, section 3.1).
 ///
-/// - Arguments: ADDRESSES, up to 64 addresses with spaces between them; else none.
-/// - Ports: one agnostic input; an agnostic output, and maybe a push output after it.
-/// - A packet passes where its header is good: it begins at the first byte, has version 4, fits the packet, and sums to
-///   ffff, and its source is none of ADDRESSES. Others are pushed to output 1 where that is connected, else dropped; where
-///   such a one was pulled, the pull gives none.
+/// - Arguments: ADDRESSES, up to 64 addresses with spaces between them; default none.
+/// - Ports: one agnostic input; one agnostic output, and optionally a push output 1.
+/// - A packet passes if its header is valid and its source is none of ADDRESSES. A valid header
+///   begins at the first byte, has version 4, fits the packet, and sums to ffff. Other packets are
+///   pushed to output 1 if that is connected, and are dropped otherwise. If such a packet was
+///   pulled, the pull returns no packet.
 /// - Handlers: none.
 ///
-/// Example: `FromDevice(a) -> c :: CheckIPHeader(0.0.0.0 255.255.255.255) -> Discard; c [1] -> Discard;`
+/// ```click
+/// FromDevice(a) -> c :: CheckIPHeader(0.0.0.0 255.255.255.255) -> Discard; c [1] -> Discard;
+/// ```
+///
+/// ```calls
+/// FromDevice(a) -> h :: CheckIPHeader -> Queue -> ToDevice(x); h [1] -> Queue -> ToDevice(y);
+/// FromDevice(b) -> CheckIPHeader(10.0.0.1) -> c :: Counter -> Discard;
+/// FromDevice(d) -> Queue -> p :: CheckIPHeader -> ToDevice(z); p [1] -> e :: Counter -> Discard;
+/// > poll a 4500001400010000401166d60a0000010a000002,4500001400010000401166d70a0000010a000002
+/// entered 2
+/// > transmit x
+/// sent 4500001400010000401166d60a0000010a000002 0 0.0.0.0
+/// > transmit x
+/// sent none
+/// > transmit y
+/// sent 4500001400010000401166d70a0000010a000002 0 0.0.0.0
+/// > arrive b 4500001400010000401166d60a0000010a000002
+/// entered 1
+/// > read c.count
+/// value 30
+/// > arrive d 4500001400010000401166d70a0000010a000002
+/// entered 1
+/// > transmit z
+/// sent none
+/// > read e.count
+/// value 31
+/// ```
 #[tactic(auto, unfolding(crate::specs::Made::check_ip_header))]
 pub fn make_check_ip_header(alloc: Global, arguments: &Arguments) -> Result<State, ArgFault>
     ensures { OrNoMemory (ByWords 0 1 check_ip_header arguments.now) result }
@@ -76,23 +103,47 @@ pub fn make_check_ip_header(alloc: Global, arguments: &Arguments) -> Result<Stat
     Ok(State::CheckIPHeader { refused })
 }
 
-/// DecIPTTL: counts the time to live down (RFC 791, section 3.1).
+/// `DecIPTTL` decrements the time to live of packets (RFC 791, section 3.1).
 ///
 /// - Arguments: none.
-/// - Ports: one agnostic input; an agnostic output, and maybe a push output after it.
-/// - The packet's time to live is less by one and its checksum is set anew. A packet without a whole header, or with a time to
-///   live of 0 or 1, stays as it is; it is pushed to output 1 where that is connected, else dropped, and where such a one was
-///   pulled, the pull gives none.
+/// - Ports: one agnostic input; one agnostic output, and optionally a push output 1.
+/// - The time to live of the packet decreases by one, and its checksum is updated. A packet without
+///   a complete header, or with a time to live of 0 or 1, is unchanged. It is pushed to output 1 if
+///   that is connected, and is dropped otherwise. If it was pulled, the pull returns no packet.
 /// - Handlers: none.
 ///
-/// Example: `FromDevice(a) -> d :: DecIPTTL -> Discard; d [1] -> Discard;`
+/// ```click
+/// FromDevice(a) -> d :: DecIPTTL -> Discard; d [1] -> Discard;
+/// ```
+///
+/// ```calls
+/// FromDevice(a) -> d :: DecIPTTL -> Queue -> ToDevice(x); d [1] -> Queue -> ToDevice(y);
+/// FromDevice(b) -> DecIPTTL -> c :: Counter -> Discard;
+/// > poll a 4500001400010000401166d60a0000010a000002,4500001400010000011166d60a0000010a000002,
+/// 4500001400010000011166d60a0000010a0000
+/// entered 3
+/// > transmit x
+/// sent 45000014000100003f1167d60a0000010a000002 0 0.0.0.0
+/// > transmit x
+/// sent none
+/// > transmit y
+/// sent 4500001400010000011166d60a0000010a000002 0 0.0.0.0
+/// > transmit y
+/// sent 4500001400010000011166d60a0000010a0000 0 0.0.0.0
+/// > transmit y
+/// sent none
+/// > arrive b -
+/// entered 1
+/// > read c.count
+/// value 30
+/// ```
 pub fn make_dec_ip_ttl(arguments: &Arguments) -> Result<State, ArgFault>
     ensures { result ≡ without_arguments State.DecIPTTL arguments.now }
 {
     without_arguments(State::DecIPTTL, arguments)
 }
 
-/// Where a packet goes after a CheckIPHeader: one whose header is bad goes aside.
+/// Returns where a packet goes after a CheckIPHeader: to the side output if its header is bad.
 #[inline(always)]
 pub fn header_verdict(refused: &Sequence<[u8; 4]>, packet: &Packet) -> Verdict
     ensures { result ≡ (if header_good packet.now.bytes refused.now then Verdict.Forward else Verdict.SideOutput) }
@@ -104,7 +155,10 @@ pub fn header_verdict(refused: &Sequence<[u8; 4]>, packet: &Packet) -> Verdict
     }
 }
 
-/// Makes a packet's time to live less by one; a packet with a time to live of 0 or 1, or without a header, stays as it is and goes aside.
+/// Decrements the packet's time to live, and returns where the packet goes.
+///
+/// With a time to live of 0 or 1, or without a header, the packet goes to the side output
+/// unchanged.
 #[inline(always)]
 pub fn age(packet: &mut Packet) -> Verdict
     ensures { aged packet.old (ttl packet.old.bytes) ≡ record { state = State.DecIPTTL; packet = packet.new; verdict = result } }

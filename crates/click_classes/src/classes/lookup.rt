@@ -1,4 +1,4 @@
-//! Elements that look up routes.
+//! The class that looks up routes: StaticIPLookup.
 
 ghost use Rattle.click_classes.specs.Made.{static_ip_lookup, ByWords};
 ghost use Rattle.click_classes.specs.Steps.{OrNoMemory};
@@ -10,18 +10,48 @@ use crate::state::State;
 use crate::values::entry::read_table;
 use std::alloc::Global;
 
-/// StaticIPLookup(ENTRY, ..): sends packets on by their destination.
+/// `StaticIPLookup(ENTRY, ..)` routes packets by their destination.
 ///
-/// - Arguments: up to 1,024 entries `PREFIX [GATEWAY] OUTPUT`, of which no two have one prefix: addresses and a number
-///   from 0 to 255.
-/// - Ports: one push input; push outputs, up to 256 and at least one more than the greatest OUTPUT.
-/// - The entry with the longest prefix that the packet's destination has tells the output. A GATEWAY becomes the packet's
-///   destination. A packet without an entry is dropped.
-/// - Read handlers: `lookup`, which takes an address (not an address): the output of its entry, and the gateway behind
-///   a space if the entry has one; -1 where no entry is the address's.
+/// - Arguments: 0 to 1,024 entries `PREFIX [GATEWAY] OUTPUT`, each with a different prefix. GATEWAY
+///   is an address, and OUTPUT a number from 0 to 255.
+/// - Ports: one push input; push outputs, at least the greatest OUTPUT + 1 and at most 256.
+/// - The entry of a destination is the one with the longest prefix that contains it. The packet
+///   goes to the OUTPUT of its entry, and a GATEWAY becomes its destination. A packet without an
+///   entry is dropped.
+/// - Read handlers: `lookup`, which takes an address (not an address). It returns the output of the
+///   address's entry, then a space and the gateway if the entry has one. It returns -1 without an
+///   entry.
 /// - Write handlers: none.
 ///
-/// Example: `FromDevice(a) -> rt :: StaticIPLookup(0.0.0.0/0 0, 10.0.0.0/8 10.9.9.9 1); rt -> Discard; rt [1] -> Discard;`
+/// ```click
+/// FromDevice(a) -> rt :: StaticIPLookup(0.0.0.0/0 0, 10.0.0.0/8 10.9.9.9 1); rt -> Discard;
+/// rt [1] -> Discard;
+/// ```
+///
+/// ```calls
+/// FromDevice(a) -> GetIPAddress(0)
+/// -> rt :: StaticIPLookup(0.0.0.0/0 0, 10.0.0.0/8 1, 10.1.0.0/16 10.9.9.9 2);
+/// rt -> Queue -> ToDevice(x); rt [1] -> Queue -> ToDevice(y); rt [2] -> Queue -> ToDevice(z);
+/// FromDevice(b) -> StaticIPLookup(10.0.0.0/8 0) -> c :: Counter -> Discard;
+/// > poll a 0a010203,0a020001,ffffffff
+/// entered 3
+/// > transmit x
+/// sent ffffffff 0 255.255.255.255
+/// > transmit x
+/// sent none
+/// > transmit y
+/// sent 0a020001 0 10.2.0.1
+/// > transmit y
+/// sent none
+/// > transmit z
+/// sent 0a010203 0 10.9.9.9
+/// > transmit z
+/// sent none
+/// > arrive b 78
+/// entered 1
+/// > read c.count
+/// value 30
+/// ```
 #[tactic(auto, unfolding(crate::specs::Made::static_ip_lookup))]
 pub fn make_static_ip_lookup(alloc: Global, arguments: &Arguments) -> Result<State, ArgFault>
     ensures { OrNoMemory (ByWords 0 1024 static_ip_lookup arguments.now) result }

@@ -1,4 +1,4 @@
-//! Classes without arguments.
+//! The classes without arguments.
 
 ghost use Rattle.std.specs.Prelude.{◌≡◌, length};
 ghost use Rattle.click_classes.specs.Made.{without_arguments};
@@ -9,7 +9,7 @@ use crate::fault::ArgFault;
 use crate::state::State;
 use click_packet::Packet;
 
-/// This state, where there is no argument.
+/// Returns the state, or `ArgumentCount` if there is an argument.
 #[tactic(auto, unfolding(crate::specs::Made::without_arguments))]
 pub fn without_arguments(state: State, arguments: &Arguments) -> Result<State, ArgFault>
     ensures { result ≡ without_arguments state arguments.now }
@@ -21,29 +21,69 @@ pub fn without_arguments(state: State, arguments: &Arguments) -> Result<State, A
     }
 }
 
-/// Unqueue: moves packets from a queue on.
+/// `Unqueue` pulls packets from a queue and pushes them on.
 ///
 /// - Arguments: none.
 /// - Ports: one pull input, one push output.
-/// - Each run of its task pulls one packet and pushes it.
+/// - In each round its task pulls one packet and pushes it.
 /// - Handlers: none.
 ///
-/// Example: `FromDevice(a) -> Queue -> Unqueue -> Discard;`
+/// ```click
+/// FromDevice(a) -> Queue -> Unqueue -> Discard;
+/// ```
+///
+/// ```calls
+/// FromDevice(a) -> Queue -> Unqueue -> c :: Counter -> Discard;
+/// > round
+/// worked 0
+/// > poll a 01,02
+/// entered 2
+/// > read c.count
+/// value 30
+/// > round
+/// worked 1
+/// > read c.count
+/// value 31
+/// > round
+/// worked 1
+/// > round
+/// worked 0
+/// ```
 pub fn make_unqueue(arguments: &Arguments) -> Result<State, ArgFault>
     ensures { result ≡ without_arguments State.Unqueue arguments.now }
 {
     without_arguments(State::Unqueue, arguments)
 }
 
-/// Counter: counts packets and bytes.
+/// `Counter` counts packets and their bytes.
 ///
 /// - Arguments: none.
 /// - Ports: one agnostic input, one agnostic output.
-/// - The count grows by one and the count of bytes by the packet's length, neither past 2^64 - 1; the packet passes.
-/// - Read handlers: `count`, the packets that passed; `byte_count`, their bytes.
-/// - Write handlers: `reset_counts`: both are 0.
+/// - Each packet adds one to the count and its length to the byte count, neither past 2^64 - 1. The
+///   packet passes.
+/// - Read handlers: `count`, the number of packets that passed; `byte_count`, the number of their
+///   bytes.
+/// - Write handlers: `reset_counts` sets both to 0.
 ///
-/// Example: `FromDevice(a) -> c :: Counter -> Discard;`
+/// ```click
+/// FromDevice(a) -> c :: Counter -> Discard;
+/// ```
+///
+/// ```calls
+/// FromDevice(a) -> c :: Counter -> Discard;
+/// > arrive a 63646566
+/// entered 1
+/// > read c.count
+/// value 31
+/// > read c.byte_count
+/// value 34
+/// > arrive a -
+/// entered 1
+/// > read c.count
+/// value 32
+/// > read c.byte_count
+/// value 34
+/// ```
 pub fn make_counter(arguments: &Arguments) -> Result<State, ArgFault>
     ensures { result ≡ without_arguments (State.Counter 0 0) arguments.now }
 {
@@ -56,77 +96,144 @@ pub fn make_counter(arguments: &Arguments) -> Result<State, ArgFault>
     )
 }
 
-/// Idle: neither takes nor gives packets.
+/// `Idle` neither passes nor emits packets.
 ///
 /// - Arguments: none.
-/// - Ports: any number of agnostic inputs and outputs.
-/// - It drops what is pushed to it, gives no packet, and never pulls.
+/// - Ports: 0 to 256 agnostic inputs, 0 to 256 agnostic outputs.
+/// - It drops packets that are pushed to it, returns no packet to a pull, and never pulls.
 /// - Handlers: none.
 ///
-/// Example: `Idle -> Discard;`
+/// ```click
+/// Idle -> Discard;
+/// ```
+///
+/// ```calls
+/// FromDevice(a) -> Idle -> c :: Counter -> Discard; Idle -> ToDevice(x);
+/// > arrive a 61
+/// entered 1
+/// > read c.count
+/// value 30
+/// > transmit x
+/// sent none
+/// ```
 pub fn make_idle(arguments: &Arguments) -> Result<State, ArgFault>
     ensures { result ≡ without_arguments State.Idle arguments.now }
 {
     without_arguments(State::Idle, arguments)
 }
 
-/// Discard: drops packets.
+/// `Discard` drops packets.
 ///
 /// - Arguments: none.
 /// - Ports: one agnostic input, no output.
-/// - It drops what is pushed to it. With a pull input each run of its task pulls one packet and drops it.
+/// - It drops packets that are pushed to it. If its input is pull, its task pulls one packet in
+///   each round and drops it.
 /// - Handlers: none.
 ///
-/// Example: `FromDevice(a) -> Discard;`
+/// ```click
+/// FromDevice(a) -> Discard;
+/// ```
+///
+/// ```calls
+/// FromDevice(a) -> Discard; FromDevice(b) -> q :: Queue -> Discard;
+/// > arrive a 61
+/// entered 1
+/// > round
+/// worked 0
+/// > poll b 62,63
+/// entered 2
+/// > round
+/// worked 1
+/// > read q.length
+/// value 31
+/// > round
+/// worked 1
+/// > round
+/// worked 0
+/// ```
 pub fn make_discard(arguments: &Arguments) -> Result<State, ArgFault>
     ensures { result ≡ without_arguments State.Discard arguments.now }
 {
     without_arguments(State::Discard, arguments)
 }
 
-/// Null: passes packets.
+/// `Null` passes packets.
 ///
 /// - Arguments: none.
 /// - Ports: one agnostic input, one agnostic output.
-/// - Packets pass.
+/// - Packets pass unchanged.
 /// - Handlers: none.
 ///
-/// Example: `FromDevice(a) -> Null -> Discard;`
+/// ```click
+/// FromDevice(a) -> Null -> Discard;
+/// ```
+///
+/// ```calls
+/// FromDevice(a) -> Null -> Queue -> Null -> ToDevice(x);
+/// > arrive a 61
+/// entered 1
+/// > transmit x
+/// sent 61 0 0.0.0.0
+/// > transmit x
+/// sent none
+/// ```
 pub fn make_null(arguments: &Arguments) -> Result<State, ArgFault>
     ensures { result ≡ without_arguments State.Null arguments.now }
 {
     without_arguments(State::Null, arguments)
 }
 
-/// PushNull: passes packets that are pushed.
+/// `PushNull` passes packets that are pushed.
 ///
 /// - Arguments: none.
 /// - Ports: one push input, one push output.
-/// - Packets pass.
+/// - Packets pass unchanged.
 /// - Handlers: none.
 ///
-/// Example: `FromDevice(a) -> PushNull -> Discard;`
+/// ```click
+/// FromDevice(a) -> PushNull -> Discard;
+/// ```
+///
+/// ```calls
+/// FromDevice(a) -> PushNull -> Queue -> ToDevice(x);
+/// > arrive a 61
+/// entered 1
+/// > transmit x
+/// sent 61 0 0.0.0.0
+/// ```
 pub fn make_push_null(arguments: &Arguments) -> Result<State, ArgFault>
     ensures { result ≡ without_arguments State.PushNull arguments.now }
 {
     without_arguments(State::PushNull, arguments)
 }
 
-/// PullNull: passes packets that are pulled.
+/// `PullNull` passes packets that are pulled.
 ///
 /// - Arguments: none.
 /// - Ports: one pull input, one pull output.
-/// - Packets pass.
+/// - Packets pass unchanged.
 /// - Handlers: none.
 ///
-/// Example: `FromDevice(a) -> Queue -> PullNull -> ToDevice(b);`
+/// ```click
+/// FromDevice(a) -> Queue -> PullNull -> ToDevice(b);
+/// ```
+///
+/// ```calls
+/// FromDevice(a) -> Queue -> PullNull -> ToDevice(x);
+/// > arrive a 61
+/// entered 1
+/// > transmit x
+/// sent 61 0 0.0.0.0
+/// > transmit x
+/// sent none
+/// ```
 pub fn make_pull_null(arguments: &Arguments) -> Result<State, ArgFault>
     ensures { result ≡ without_arguments State.PullNull arguments.now }
 {
     without_arguments(State::PullNull, arguments)
 }
 
-/// A packet passes a Counter.
+/// Adds a packet and its bytes to the counts of a Counter.
 pub fn count_packet(count: &mut u64, byte_count: &mut u64, packet: &Packet)
     ensures count { count.new ≡ up_by count.old 1 }
     ensures byte_count { byte_count.new ≡ up_by byte_count.old (length packet.now.bytes) }

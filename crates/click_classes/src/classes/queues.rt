@@ -1,4 +1,4 @@
-//! Queues.
+//! The queues: Queue and FrontDropQueue.
 
 ghost use Rattle.std.specs.Prelude.{◌≡◌, ◌≤◌, [], Ok, IfOk, length};
 ghost use Rattle.click_classes.specs.Made.{capacity, queue, front_drop_queue};
@@ -13,7 +13,7 @@ use crate::values::number::number_in;
 use click_packet::Packet;
 use std::alloc::Global;
 
-/// How many packets there is room for.
+/// Returns the number of packets that the queue has room for.
 #[tactic(auto, unfolding(crate::specs::Made::capacity))]
 fn capacity(arguments: &Arguments) -> Result<u64, ArgFault>
     ensures value { result ≡ capacity arguments.now }
@@ -28,7 +28,7 @@ fn capacity(arguments: &Arguments) -> Result<u64, ArgFault>
     }
 }
 
-/// An empty list with room for that many packets.
+/// Returns an empty list with room for `capacity` packets, or fails with out of memory.
 fn list(alloc: Global, capacity: u64) -> Result<PacketList, ArgFault>
     requires { capacity ≤ 10000 }
     ensures { IsOrNoMemory (Ok (record { packets = []; capacity = capacity })) result }
@@ -39,19 +39,42 @@ fn list(alloc: Global, capacity: u64) -> Result<PacketList, ArgFault>
     }
 }
 
-/// Queue([CAPACITY]): stores packets and gives them first in, first out.
+/// `Queue([CAPACITY])` stores packets and returns them first in, first out.
 ///
-/// - Arguments: CAPACITY, a number from 1 to 10,000, else 1,000.
+/// - Arguments: CAPACITY, a number from 1 to 10,000; default 1,000.
 /// - Ports: one push input, one pull output.
-/// - A packet that comes is stored last; when CAPACITY packets are stored it is dropped and counted in `drops`. A pull
-///   takes the first.
-/// - Read handlers: `length`, the packets stored; `highwater_length`, the most since the beginning or the last
-///   `reset_counts`; `drops`, the packets dropped, at most 2^64 - 1; `capacity`.
-/// - Write handlers: `capacity`, from 1 to 10,000 (not a number, out of range): where more packets are stored the first
-///   stay, and the others count as drops; `reset_counts`: `drops` is 0 and `highwater_length` the length; `reset`: all
-///   packets go.
+/// - A pushed packet is stored last. If CAPACITY packets are stored already, it is dropped and
+///   counted in `drops`. A pull takes the first packet out.
+/// - Read handlers: `length`, the number of stored packets; `highwater_length`, its maximum since
+///   the beginning or the last `reset_counts`; `drops`, the number of dropped packets, at most 2^64
+///   - 1; `capacity`.
+/// - Write handlers: `capacity`, from 1 to 10,000 (not a number, out of range). If more packets are
+///   stored, the first ones stay and the others count as drops. `reset_counts` sets `drops` to 0
+///   and `highwater_length` to the length. `reset` removes all packets.
 ///
-/// Example: `FromDevice(a) -> q :: Queue(64) -> ToDevice(b);`
+/// ```click
+/// FromDevice(a) -> q :: Queue(64) -> ToDevice(b);
+/// ```
+///
+/// ```calls
+/// FromDevice(a) -> q :: Queue(2) -> ToDevice(b);
+/// > poll a 31,32,33
+/// entered 3
+/// > read q.drops
+/// value 31
+/// > transmit b
+/// sent 31 0 0.0.0.0
+/// > transmit b
+/// sent 32 0 0.0.0.0
+/// > transmit b
+/// sent none
+/// > read q.length
+/// value 30
+/// > read q.highwater_length
+/// value 32
+/// > read q.capacity
+/// value 32
+/// ```
 #[tactic(auto, unfolding(crate::specs::Made::queue))]
 pub fn make_queue(alloc: Global, arguments: &Arguments) -> Result<State, ArgFault>
     ensures { IsOrNoMemory (queue arguments.now) result }
@@ -65,15 +88,35 @@ pub fn make_queue(alloc: Global, arguments: &Arguments) -> Result<State, ArgFaul
     })
 }
 
-/// FrontDropQueue([CAPACITY]): stores packets and gives them first in, first out; the oldest makes room.
+/// `FrontDropQueue([CAPACITY])` stores packets first in, first out, and drops the oldest if full.
 ///
-/// - Arguments: as of Queue.
+/// - Arguments: those of Queue.
 /// - Ports: one push input, one pull output.
-/// - A packet that comes is stored last; when CAPACITY packets are stored the first is dropped and counted in `drops`. A
-///   pull takes the first.
-/// - Handlers: as of Queue.
+/// - A pushed packet is stored last. If CAPACITY packets are stored already, the first one is
+///   dropped for it and counted in `drops`. A pull takes the first packet out.
+/// - Handlers: those of Queue.
 ///
-/// Example: `FromDevice(a) -> q :: FrontDropQueue(2) -> ToDevice(b);`
+/// ```click
+/// FromDevice(a) -> q :: FrontDropQueue(2) -> ToDevice(b);
+/// ```
+///
+/// ```calls
+/// FromDevice(a) -> q :: FrontDropQueue(2) -> ToDevice(b);
+/// > poll a 31,32,33
+/// entered 3
+/// > read q.drops
+/// value 31
+/// > read q.length
+/// value 32
+/// > transmit b
+/// sent 32 0 0.0.0.0
+/// > transmit b
+/// sent 33 0 0.0.0.0
+/// > transmit b
+/// sent none
+/// > read q.highwater_length
+/// value 32
+/// ```
 #[tactic(auto, unfolding(crate::specs::Made::front_drop_queue))]
 pub fn make_front_drop_queue(alloc: Global, arguments: &Arguments) -> Result<State, ArgFault>
     ensures { IsOrNoMemory (front_drop_queue arguments.now) result }
@@ -87,7 +130,7 @@ pub fn make_front_drop_queue(alloc: Global, arguments: &Arguments) -> Result<Sta
     })
 }
 
-/// Stores a packet last; a full queue drops it.
+/// Appends the packet. A full queue drops the packet instead.
 #[inline(never)]
 pub fn store(list: &mut PacketList, drops: &mut u64, highest: &mut usize, packet: &Packet)
     ensures { queued list.old drops.old highest.old packet.now
@@ -104,7 +147,7 @@ pub fn store(list: &mut PacketList, drops: &mut u64, highest: &mut usize, packet
     list.push_back(packet);
 }
 
-/// Stores a packet last; a full queue drops its first packet for it.
+/// Appends the packet. A full queue first drops its oldest packet.
 #[inline(never)]
 pub fn store_dropping_first(
     list: &mut PacketList,
@@ -121,7 +164,7 @@ pub fn store_dropping_first(
         return;
     }
     *drops = drops.saturating_add(1);
-    // A queue without room drops what comes.
+    // A queue with room for no packet drops the new one.
     if list.len() > 0 {
         list.drop_front();
         list.push_back(packet);

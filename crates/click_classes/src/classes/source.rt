@@ -1,4 +1,4 @@
-//! Elements that make packets.
+//! The class that creates packets: InfiniteSource.
 
 ghost use Rattle.std.specs.Prelude.{◌≡◌, ◌-◌, ◌^◌, ◌&&◌, None, true, slice_get, length, nat_le};
 ghost use Rattle.click_classes.specs.Acts.{is_below};
@@ -16,7 +16,7 @@ use click_base::sequence::Sequence;
 use click_text::unquote;
 use std::alloc::Global;
 
-/// The bytes of a packet.
+/// Returns the bytes of each packet.
 fn source_bytes(alloc: Global, arguments: &Arguments) -> Result<Sequence<u8>, ArgFault>
     ensures { OrNoMemory (AreBytes (slice_get arguments.now 0)) result }
 {
@@ -33,7 +33,7 @@ fn source_bytes(alloc: Global, arguments: &Arguments) -> Result<Sequence<u8>, Ar
     Ok(Sequence::of(bytes))
 }
 
-/// How many packets there will be, if that has an end.
+/// Returns the maximum number of packets; `None` if it has no limit.
 fn limit(arguments: &Arguments) -> Result<Option<u64>, ArgFault>
     ensures { result ≡ optional arguments.now 1 None (number_or_minus_one (2 ^ 64 - 1)) }
 {
@@ -43,7 +43,7 @@ fn limit(arguments: &Arguments) -> Result<Option<u64>, ArgFault>
     }
 }
 
-/// How many packets one run of the task gives.
+/// Returns the maximum number of packets that are emitted when the task runs once.
 fn burst(arguments: &Arguments) -> Result<u8, ArgFault>
     ensures { result ≡ optional arguments.now 2 1 (number_in 1 64) }
 {
@@ -54,7 +54,7 @@ fn burst(arguments: &Arguments) -> Result<u8, ArgFault>
     Ok(burst as u8)
 }
 
-/// Whether there are packets from the beginning on.
+/// Returns whether the source is active at first.
 fn active(arguments: &Arguments) -> Result<bool, ArgFault>
     ensures { result ≡ optional arguments.now 3 true truth }
 {
@@ -64,7 +64,7 @@ fn active(arguments: &Arguments) -> Result<bool, ArgFault>
     }
 }
 
-/// Whether a source may give one more packet.
+/// Returns whether a source with this limit may emit one more packet.
 fn is_below(limit: Option<u64>, count: u64) -> bool
     ensures { result ≡ is_below limit count }
 {
@@ -74,24 +74,48 @@ fn is_below(limit: Option<u64>, count: u64) -> bool
     }
 }
 
-/// Whether a source has a packet to give now.
+/// Returns whether a source has a packet to emit now.
 pub fn has_next(bytes: &Sequence<u8>, limit: Option<u64>, active: bool, count: u64) -> bool
     ensures { result ≡ (active && is_below limit count && nat_le (length bytes.now) 1600) }
 {
     active && is_below(limit, count) && bytes.len() <= 1_600
 }
 
-/// InfiniteSource([BYTES [, LIMIT [, BURST [, ACTIVE]]]]): makes packets.
+/// `InfiniteSource([BYTES [, LIMIT [, BURST [, ACTIVE]]]])` emits packets.
 ///
-/// - Arguments: BYTES, at most 1,600 bytes without their quotes, else 64 zero bytes; LIMIT, a number from 0 to 2^64 - 1, or
-///   -1 for none, which is the default; BURST, a number from 1 to 64, else 1; ACTIVE, a truth value, else true.
+/// - Arguments: BYTES, at most 1,600 bytes when unquoted; default 64 zero bytes. LIMIT, a number
+///   from 0 to 2^64 - 1, or -1 for none; default -1. BURST, a number from 1 to 64; default 1.
+///   ACTIVE, a truth value; default true.
 /// - Ports: no input, one push output.
-/// - While it is active, each run of its task pushes up to BURST packets of BYTES and counts each. With a LIMIT there are
-///   none once the count has reached it.
-/// - Read handlers: `active`, whether there are packets now; `count`, the packets so far.
-/// - Write handlers: `active`, a truth value (not a truth value); `reset`: `count` is 0.
+/// - While it is active, its task pushes up to BURST packets of BYTES in each round and counts
+///   each. It pushes none once the count has reached LIMIT.
+/// - Read handlers: `active`, whether it is active; `count`, the number of packets so far.
+/// - Write handlers: `active`, a truth value (not a truth value); `reset` sets `count` to 0.
 ///
-/// Example: `InfiniteSource("ab", 5, 2) -> Discard;`
+/// ```click
+/// InfiniteSource("ab", 5, 2) -> Discard;
+/// ```
+///
+/// ```calls
+/// InfiniteSource("ab", 5, 2) -> q :: Queue -> ToDevice(x);
+/// i :: InfiniteSource(c, -1, 64, false) -> Discard;
+/// > round
+/// worked 2
+/// > read q.length
+/// value 32
+/// > transmit x
+/// sent 6162 0 0.0.0.0
+/// > round
+/// worked 2
+/// > round
+/// worked 1
+/// > round
+/// worked 0
+/// > read InfiniteSource@1.count
+/// value 35
+/// > read i.count
+/// value 30
+/// ```
 #[tactic(auto, unfolding(crate::specs::Made::infinite_source))]
 pub fn make_infinite_source(alloc: Global, arguments: &Arguments) -> Result<State, ArgFault>
     ensures { OrNoMemory (ByFirst 4 infinite_source arguments.now) result }

@@ -4,7 +4,7 @@ ghost use Rattle.std.specs.Prelude.{◌≡◌};
 ghost use Rattle.std.specs.List.{list_all};
 ghost use Rattle.click_classes.specs.Values.{device_byte, is_device};
 
-/// A letter, a digit, `_`, `.`, `:` or `-`.
+/// Returns whether the byte is a letter, a digit, `_`, `.`, `:` or `-`.
 fn is_device_byte(byte: u8) -> bool
     ensures { result ≡ device_byte byte }
 {
@@ -17,7 +17,9 @@ fn all_device_bytes(bytes: &[u8]) -> bool
     bytes.iter().all(|byte| is_device_byte(*byte))
 }
 
-/// 1 to 64 letters, digits, `_`, `.`, `:` and `-`.
+/// Returns whether the bytes are the name of a device.
+///
+/// A name has 1 to 64 letters, digits, `_`, `.`, `:` and `-`.
 #[tactic(auto, unfolding(crate::specs::Values::is_device))]
 pub fn is_device(bytes: &[u8]) -> bool
     ensures { result ≡ is_device bytes.now }

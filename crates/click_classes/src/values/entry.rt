@@ -12,7 +12,7 @@ use click_base::sequence::Sequence;
 use std::alloc::Global;
 use std::collections::BTreeSet;
 
-/// Where packets go whose destination the prefix has.
+/// An entry: where packets go if the prefix covers their destination.
 #[derive(Clone, Copy, Debug, PartialEq, Eq)]
 pub struct Entry {
     pub prefix: Prefix,
@@ -20,7 +20,7 @@ pub struct Entry {
     pub output: u8,
 }
 
-/// A prefix, maybe a gateway, and an output from 0 to 255.
+/// Returns the entry that words spell: a prefix, optionally a gateway, and an output from 0 to 255.
 #[tactic(auto, unfolding(crate::specs::Entries::entry))]
 pub fn read_entry(words: &[Sequence<u8>]) -> Result<Entry, ArgFault>
     ensures { result ≡ entry words.now }
@@ -47,7 +47,9 @@ pub fn read_entry(words: &[Sequence<u8>]) -> Result<Entry, ArgFault>
     Err(ArgFault::BadEntry)
 }
 
-/// The entries that arguments spell, which are given by their words; no two have one prefix.
+/// Returns the entries of the arguments, each of which is given by its words.
+///
+/// Fails with `BadEntry` if two entries have the same prefix.
 pub fn read_table(
     alloc: Global,
     arguments: &[Sequence<Sequence<u8>>],
@@ -55,7 +57,7 @@ pub fn read_table(
     ensures { IsOrNoMemory (table [] arguments.now) result }
 {
     let mut entries = Sequence::new(alloc);
-    // The prefixes of the entries.
+    // The prefixes of the entries so far.
     let mut seen: BTreeSet<Prefix> = BTreeSet::new(alloc);
     for words in arguments {
         let entry = read_entry(words.as_slice())?;

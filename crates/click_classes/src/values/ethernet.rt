@@ -6,7 +6,9 @@ ghost use Rattle.click_classes.specs.Values.{ethernet};
 use crate::fault::ArgFault;
 use crate::values::groups::{Group, read_separated};
 
-/// Six groups of one or two hexadecimal digits, joined by `:`.
+/// Returns the Ethernet address that the bytes spell, or `BadAddress`.
+///
+/// It is six groups of one or two hexadecimal digits, joined by `:`.
 #[tactic(auto, unfolding(crate::specs::Values::ethernet))]
 pub fn ethernet(bytes: &[u8]) -> Result<[u8; 6], ArgFault>
     ensures { result ≡ ethernet bytes.now }

@@ -1,11 +1,11 @@
-//! Groups of digits with a byte between two of them.
+//! Groups of digits with a separator between two of them.
 
 ghost use Rattle.std.specs.Prelude.{◌≡◌, ◌==◌, ◌<◌, length, position, Some, None, IfSome, MatchBool};
 ghost use Rattle.click_classes.specs.Values.{group, separated};
 
 use crate::values::number::{decimal_in, hexadecimal_in};
 
-/// What a group is.
+/// The kind of a group.
 #[derive(Clone, Copy)]
 pub enum Group {
     /// One to three decimal digits that spell at most 255.
@@ -15,7 +15,7 @@ pub enum Group {
 }
 
 impl Group {
-    /// The byte that the digits spell, if they are such a group.
+    /// Returns the byte that the digits spell, if they are a group of this kind.
     #[tactic(auto, unfolding(crate::specs::Values::group))]
     pub fn read(self, bytes: &[u8]) -> Option<u8>
         ensures { result ≡ group self bytes.now }
@@ -29,7 +29,7 @@ impl Group {
     }
 }
 
-/// Where the byte stands first.
+/// Returns the index of the first byte that equals `byte`.
 pub fn place(bytes: &[u8], byte: u8) -> Option<usize>
     ensures value { result ≡ position (λ b. b == byte) bytes.now }
     ensures within { IfSome result (λ at. (at < length bytes.now) × (at < usize.MAX)) }
@@ -37,7 +37,9 @@ pub fn place(bytes: &[u8], byte: u8) -> Option<usize>
     bytes.iter().position(|b| *b == byte)
 }
 
-/// Reads as many groups as `values` has places, with a separator between two of them, and says whether it could.
+/// Reads as many groups as `values` has items, with a separator between two of them.
+///
+/// Returns false if the bytes are not such groups.
 pub fn read_separated(bytes: &[u8], separator: u8, kind: Group, values: &mut [u8]) -> bool
     requires { 0 < length values.old }
     ensures { MatchBool result

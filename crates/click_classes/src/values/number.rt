@@ -1,4 +1,5 @@
-//! Numbers: decimal digits, or `0x` and hexadecimal digits (Click element reference, "unsigned integer").
+//! Numbers: decimal digits, or `0x` and hexadecimal digits (Click element reference, "unsigned
+//! integer").
 
 ghost use Rattle.std.specs.Prelude.{◌≡◌, ◌<◌, ◌≤◌, ◌+◌, ◌*◌, IfOk, IfSome};
 ghost use Rattle.std.specs.List.{list_all};
@@ -7,21 +8,21 @@ ghost use Rattle.click_classes.specs.Values.{hex_digit, digit_value, is_run, spe
 
 use crate::fault::ArgFault;
 
-/// Whether the byte is a decimal digit.
+/// Returns whether the byte is a decimal digit.
 fn is_digit(byte: u8) -> bool
     ensures { result ≡ digit byte }
 {
     byte.is_ascii_digit()
 }
 
-/// Whether the byte is a hexadecimal digit.
+/// Returns whether the byte is a hexadecimal digit.
 pub fn is_hex_digit(byte: u8) -> bool
     ensures { result ≡ hex_digit byte }
 {
     byte.is_ascii_hexdigit()
 }
 
-/// What a hexadecimal digit is worth.
+/// Returns the value of a hexadecimal digit.
 pub fn digit_value(byte: u8) -> u8
     ensures value { result ≡ digit_value byte }
     ensures small { result < 16 }
@@ -34,35 +35,35 @@ pub fn digit_value(byte: u8) -> u8
     }
 }
 
-/// Decimal digits alone.
+/// Returns whether all bytes are decimal digits.
 fn all_digits(bytes: &[u8]) -> bool
     ensures { result ≡ list_all digit bytes.now }
 {
     bytes.iter().all(|byte| is_digit(*byte))
 }
 
-/// Hexadecimal digits alone.
+/// Returns whether all bytes are hexadecimal digits.
 pub fn all_hex_digits(bytes: &[u8]) -> bool
     ensures { result ≡ list_all hex_digit bytes.now }
 {
     bytes.iter().all(|byte| is_hex_digit(*byte))
 }
 
-/// One or more decimal digits.
+/// Returns whether the bytes are one or more decimal digits.
 fn are_decimal(bytes: &[u8]) -> bool
     ensures { result ≡ is_run digit bytes.now }
 {
     !bytes.is_empty() && all_digits(bytes)
 }
 
-/// One or more hexadecimal digits.
+/// Returns whether the bytes are one or more hexadecimal digits.
 fn are_hexadecimal(bytes: &[u8]) -> bool
     ensures { result ≡ is_run hex_digit bytes.now }
 {
     !bytes.is_empty() && all_hex_digits(bytes)
 }
 
-/// A number with a further digit, if that is at most `high`.
+/// Returns the number with one more digit, if that is at most `high`.
 fn with_digit(number: u64, base: u64, digit: u64, high: u64) -> Option<u64>
     ensures { result ≡ at_most high (base * number + digit) }
 {
@@ -70,14 +71,14 @@ fn with_digit(number: u64, base: u64, digit: u64, high: u64) -> Option<u64>
     (more <= high).then_some(more)
 }
 
-/// The number that digits spell, if it is at most `high`. There may be any number of digits.
+/// Returns the number that any number of digits spell, if it is at most `high`.
 fn spelled(digits: &[u8], base: u64, high: u64) -> Option<u64>
     requires { 0 < base }
     ensures { result ≡ at_most high (spelled base 0 digits.now) }
 {
     let mut number: u64 = 0;
     for digit in digits {
-        // Further digits make it no smaller.
+        // More digits cannot make the number smaller.
         let Some(more) = with_digit(number, base, u64::from(digit_value(*digit)), high) else {
             return None;
         };
@@ -86,7 +87,7 @@ fn spelled(digits: &[u8], base: u64, high: u64) -> Option<u64>
     Some(number)
 }
 
-/// What decimal digits alone spell, up to `high`.
+/// Returns the number that decimal digits spell, if it is at most `high`.
 #[tactic(auto, unfolding(crate::specs::Values::decimal_in))]
 pub fn decimal_in(bytes: &[u8], high: u64) -> Option<u64>
     ensures value { result ≡ decimal_in high bytes.now }
@@ -99,7 +100,7 @@ pub fn decimal_in(bytes: &[u8], high: u64) -> Option<u64>
     }
 }
 
-/// What hexadecimal digits alone spell, up to `high`.
+/// Returns the number that hexadecimal digits spell, if it is at most `high`.
 #[tactic(auto, unfolding(crate::specs::Values::hexadecimal_in))]
 pub fn hexadecimal_in(bytes: &[u8], high: u64) -> Option<u64>
     ensures value { result ≡ hexadecimal_in high bytes.now }
@@ -112,7 +113,9 @@ pub fn hexadecimal_in(bytes: &[u8], high: u64) -> Option<u64>
     }
 }
 
-/// A number from `low` to `high`.
+/// Returns the number that the bytes spell, if it is from `low` to `high`.
+///
+/// Fails with `BadNumber` if they spell no number, or with `OutOfRange`.
 #[tactic(auto, unfolding(crate::specs::Values::number_in))]
 pub fn number_in(bytes: &[u8], low: u64, high: u64) -> Result<u64, ArgFault>
     ensures value { result ≡ number_in low high bytes.now }
@@ -135,7 +138,7 @@ pub fn number_in(bytes: &[u8], low: u64, high: u64) -> Result<u64, ArgFault>
     }
 }
 
-/// A number from `low` to `high` in decimal digits alone.
+/// Does what `number_in` does, for decimal digits only.
 #[tactic(auto, unfolding(crate::specs::Values::decimal_number))]
 pub fn decimal_number(bytes: &[u8], low: u64, high: u64) -> Result<u64, ArgFault>
     ensures value { result ≡ decimal_number low high bytes.now }
@@ -150,7 +153,7 @@ pub fn decimal_number(bytes: &[u8], low: u64, high: u64) -> Result<u64, ArgFault
     }
 }
 
-/// A number from 0 to `high`, or `-1`, which is None.
+/// Returns the number that the bytes spell, from 0 to `high`, or `None` for `-1`.
 #[tactic(auto, unfolding(crate::specs::Values::number_or_minus_one))]
 pub fn number_or_minus_one(bytes: &[u8], high: u64) -> Result<Option<u64>, ArgFault>
     ensures value { result ≡ number_or_minus_one high bytes.now }

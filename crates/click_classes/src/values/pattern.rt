@@ -12,8 +12,10 @@ use crate::values::number::{all_hex_digits, decimal_in, digit_value, is_hex_digi
 use click_base::sequence::Sequence;
 use std::alloc::Global;
 
-/// A condition on a packet: the bytes from the offset on are there and agree with the value in each bit of the mask;
-/// negated, that is not so.
+/// A clause: a condition on the bytes of a packet.
+///
+/// The packet must have bytes at the offset that agree with the value in each bit of the mask. If
+/// the clause is negated, it must not.
 #[derive(Drop)]
 pub struct Clause {
     pub negated: bool,
@@ -22,19 +24,19 @@ pub struct Clause {
     pub mask: Sequence<u8>,
 }
 
-/// Conditions that all have to hold. `-` has none.
+/// A pattern: clauses that must all hold. The pattern `-` has none.
 #[derive(Drop)]
 pub struct Pattern {
     pub clauses: Sequence<Clause>,
 }
 
-/// The greatest number of digits of a clause.
+/// The maximum number of digits of a clause.
 const MOST_DIGITS: usize = 128;
 
-/// A mask in which each bit counts.
+/// The digits of a mask in which every bit counts.
 const FULL_MASK: [u8; MOST_DIGITS] = [b'f'; MOST_DIGITS];
 
-/// A hexadecimal digit or `?`.
+/// Returns whether the byte is a hexadecimal digit or `?`.
 fn is_pattern_digit(byte: u8) -> bool
     ensures { result ≡ pattern_digit byte }
 {
@@ -47,7 +49,7 @@ fn all_pattern_digits(bytes: &[u8]) -> bool
     bytes.iter().all(|byte| is_pattern_digit(*byte))
 }
 
-/// An even number of 2 to 128 hexadecimal digits or `?`.
+/// Returns whether these are 2 to 128 hexadecimal digits or `?`, an even number.
 fn are_digits(digits: &[u8]) -> bool
     ensures { result ≡ are_digits digits.now }
 {
@@ -55,14 +57,14 @@ fn are_digits(digits: &[u8]) -> bool
     len % 2 == 0 && 2 <= len && len <= MOST_DIGITS && all_pattern_digits(digits)
 }
 
-/// As many hexadecimal digits as the clause has digits.
+/// Returns whether the mask has as many digits as the clause, all hexadecimal.
 fn is_mask(digits: &[u8], mask: &[u8]) -> bool
     ensures { result ≡ is_mask digits.now mask.now }
 {
     mask.len() == digits.len() && all_hex_digits(mask)
 }
 
-/// The bytes that pairs of digits spell, where `?` stands for 0.
+/// Returns the bytes that pairs of digits spell, with 0 for `?`.
 fn value_of(alloc: Global, digits: &[u8]) -> Result<Sequence<u8>, ArgFault>
     ensures { IsOrNoMemory (Ok (value_of digits.now)) result }
 {
@@ -73,7 +75,7 @@ fn value_of(alloc: Global, digits: &[u8]) -> Result<Sequence<u8>, ArgFault>
     Ok(value)
 }
 
-/// The bits of a mask's digit that count at a digit: none under a `?`.
+/// Returns the bits of a mask's digit that count with this digit: none with `?`.
 fn counted_bits(digit: u8, mask: u8) -> u8
     ensures value { result ≡ counted_bits digit mask }
     ensures small { result ≤ 15 }
@@ -81,7 +83,7 @@ fn counted_bits(digit: u8, mask: u8) -> u8
     if digit == b'?' { 0 } else { digit_value(mask) }
 }
 
-/// The bytes of a mask.
+/// Returns the bytes of a mask, for these digits.
 fn mask_of(alloc: Global, digits: &[u8], mask: &[u8]) -> Result<Sequence<u8>, ArgFault>
     requires { length mask.now ≡ length digits.now }
     ensures { IsOrNoMemory (Ok (mask_of digits.now mask.now)) result }
@@ -96,7 +98,7 @@ fn mask_of(alloc: Global, digits: &[u8], mask: &[u8]) -> Result<Sequence<u8>, Ar
     Ok(bytes)
 }
 
-/// A clause of these parts.
+/// Returns the clause with these parts.
 #[tactic(auto, unfolding(crate::specs::Patterns::clause_of))]
 fn clause_of(
     alloc: Global,
@@ -120,7 +122,7 @@ fn clause_of(
     })
 }
 
-/// A clause without a mask.
+/// Returns the clause with these parts and no mask.
 fn full_clause(alloc: Global, negated: bool, offset: u16, digits: &[u8]) -> Result<Clause, ArgFault>
     ensures { IsOrNoMemory (clause_of negated offset digits.now (replicate (length digits.now) 102)) result }
 {
@@ -130,7 +132,7 @@ fn full_clause(alloc: Global, negated: bool, offset: u16, digits: &[u8]) -> Resu
     clause_of(alloc, negated, offset, digits, &FULL_MASK[..digits.len()])
 }
 
-/// A clause after its `!`.
+/// Returns the clause that the text after its `!` spells.
 fn unsigned(alloc: Global, negated: bool, text: &[u8]) -> Result<Clause, ArgFault>
     ensures { IsOrNoMemory (unsigned negated text.now) result }
 {
@@ -153,7 +155,7 @@ fn unsigned(alloc: Global, negated: bool, text: &[u8]) -> Result<Clause, ArgFaul
     }
 }
 
-/// `[!]offset/digits[%mask]`.
+/// Returns the clause that `[!]offset/digits[%mask]` spells.
 #[tactic(auto, unfolding(crate::specs::Patterns::clause))]
 fn read_clause(alloc: Global, word: &[u8]) -> Result<Clause, ArgFault>
     ensures { IsOrNoMemory (clause word.now) result }
@@ -165,14 +167,14 @@ fn read_clause(alloc: Global, word: &[u8]) -> Result<Clause, ArgFault>
     }
 }
 
-/// The word `-` alone.
+/// Returns whether the only word is `-`.
 fn is_dash(words: &[Sequence<u8>]) -> bool
     ensures { result ≡ is_dash words.now }
 {
     words.len() == 1 && words[0].as_slice() == b"-".as_slice()
 }
 
-/// The clauses that words spell, up to the first fault.
+/// Returns the clauses that words spell, or their first fault.
 fn clauses(alloc: Global, words: &[Sequence<u8>]) -> Result<Sequence<Clause>, ArgFault>
     ensures { IsOrNoMemory (each clause words.now) result }
 {
@@ -184,7 +186,7 @@ fn clauses(alloc: Global, words: &[Sequence<u8>]) -> Result<Sequence<Clause>, Ar
     Ok(list)
 }
 
-/// `-`, or one or more clauses.
+/// Returns the pattern that words spell: `-`, or one or more clauses.
 #[tactic(auto, unfolding(crate::specs::Patterns::pattern))]
 pub fn read_pattern(alloc: Global, words: &[Sequence<u8>]) -> Result<Pattern, ArgFault>
     ensures { IsOrNoMemory (pattern words.now) result }

@@ -8,14 +8,14 @@ use crate::values::address::address;
 use crate::values::groups::place;
 use crate::values::number::decimal_in;
 
-/// The addresses whose first `len` bits are those of `network`.
+/// A prefix: the addresses whose first `len` bits are those of `network`.
 #[derive(Clone, Copy, Debug, PartialEq, Eq, PartialOrd, Ord)]
 pub struct Prefix {
     pub network: [u8; 4],
     pub len: u8,
 }
 
-/// The first bits of a byte, with the others 0.
+/// Returns the byte with only its first bits kept.
 #[tactic(auto, unfolding(crate::specs::Values::first_bits))]
 fn first_bits(bits: u8, byte: u8) -> u8
     ensures { result ≡ first_bits bits byte }
@@ -24,7 +24,7 @@ fn first_bits(bits: u8, byte: u8) -> u8
     (u16::from(byte) / unit * unit) as u8
 }
 
-/// The address with the bits past a length cleared.
+/// Returns the address with the bits after the first `len` cleared.
 #[tactic(auto, unfolding(crate::specs::Values::cleared))]
 pub fn cleared(len: u8, address: [u8; 4]) -> [u8; 4]
     ensures { result ≡ cleared len address }
@@ -37,7 +37,9 @@ pub fn cleared(len: u8, address: [u8; 4]) -> [u8; 4]
     ]
 }
 
-/// An address, `/` and a length of 0 to 32, or an address alone, which has length 32. Bits past the length are cleared.
+/// Returns the prefix that the bytes spell: an address, `/` and a length of 0 to 32.
+///
+/// An address alone is a prefix of length 32. Bits after the length are cleared.
 #[tactic(auto, unfolding(crate::specs::Values::prefix))]
 pub fn read_prefix(bytes: &[u8]) -> Result<Prefix, ArgFault>
     ensures { result ≡ prefix bytes.now }

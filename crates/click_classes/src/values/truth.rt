@@ -5,7 +5,9 @@ ghost use Rattle.click_classes.specs.Values.{truth};
 
 use crate::fault::ArgFault;
 
-/// `true`, `yes` and `1`, or `false`, `no` and `0`.
+/// Returns the truth value: `true`, `yes` or `1`, or else `false`, `no` or `0`.
+///
+/// Fails with `BadNumber` for other bytes.
 #[tactic(auto, unfolding(crate::specs::Values::truth))]
 pub fn truth(bytes: &[u8]) -> Result<bool, ArgFault>
     ensures { result ≡ truth bytes.now }

@@ -1,4 +1,4 @@
--- A session that goes on: what it has done up to a moment.
+-- The state of a session that is in progress.
 use Rattle.std.specs.Prelude.{◌≡◌, ℕ, ◌≤◌, ◌<◌, List, [], ◌++◌, length, Bool, true, false, Option, Some, None, Result, Ok, Err}
 use Rattle.std.specs.Io.KnownBytes.{IsAtEnd}
 use Rattle.click_router.specs.declared.call.Call.{Call}
@@ -17,18 +17,19 @@ use Rattle.click_control.specs.Peers.{Input, Output, HasRead, HasWritten}
 use Rattle.click_control.specs.ReplyText.{greeting}
 use Rattle.click_control.specs.Serving.{Asked, replies, GoesOn, Turned, ServesTurns}
 
--- a front of the text was written
+-- a prefix of the text was written
 abbrev pub WroteFront : Output → Output → List ℕ → Bool → Type 0
 WroteFront held holds text failed = (front : List ℕ) × (rest : List ℕ) × (text ≡ front ++ rest) × HasWritten held holds front failed
 
--- a text was written in full; or a front of it, up to the fault
+-- The text was written in full, or a prefix of it up to a fault.
 abbrev pub Written : {T : Type 0} → Result T ServeFault → Output → Output → List ℕ → Type 0
 Written (Ok _) held holds text = HasWritten held holds text false
 Written (Err fault.WriteFailed) held holds text = WroteFront held holds text true
 Written (Err fault.NoMemory) held holds text = WroteFront held holds text false
 Written (Err fault.ReadFailed) held holds text = ⊥
 
--- the session took in a piece of some bytes; or the input is at its end; or a fault
+-- The session was fed the piece that a read returned, or the input is at its end, or there was a
+-- fault.
 abbrev pub TakesIn : Input → Input → Pending → Pending → Result Bool ServeFault → Type 0
 TakesIn had left old new (Ok true) =
     (piece : List ℕ) × (0 < length piece) × HasRead had left piece 1 false × (new ≡ fed old piece)
@@ -37,7 +38,7 @@ TakesIn had left old new (Err fault.ReadFailed) = HasRead had left [] 0 true
 TakesIn had left old new (Err fault.NoMemory) = (piece : List ℕ) × HasRead had left piece 1 false
 TakesIn had left old new (Err fault.WriteFailed) = ⊥
 
--- how a command ends a session
+-- how a command ends a session, if it does
 abbrev pub ending_of : Command → Option Ended
 ending_of (command.Read handler text) = None
 ending_of (command.Write handler text) = None
@@ -49,12 +50,13 @@ ending_of command.LineTooLong = Some ended.TooLong
 ending_of command.DataTooLong = Some ended.TooLong
 ending_of (command.Unknown word) = None
 
--- A session so far, whose commands to come are those of this state: each of the n commands that were taken up is answered in full, and its turn went through.
+-- A session in progress. It has taken up n commands, each of which is answered in full and whose
+-- turns went through. The commands that are still to come are those of the state `s`.
 pub record SoFar {P : Type 0} (asks : P → Call → Result Reply AskFault → P → Type 0) {T : Type 0} (turn : T → ℕ → Bool → T → Type 0) (done : T → ℕ → T → Type 0)
     (readonly : Bool) (most : ℕ) (old now : P) (was is : T) (had left : Input) (held holds : Output) (s : Pending) (n reads : ℕ) : Type 0 where
   pub input : List ℕ
   pub read : HasRead had left input reads false
-  -- each read gave a byte
+  -- each read returned at least one byte
   pub many : reads ≤ length input
   pub within : reads ≤ most
   pub taken : List Command
@@ -68,7 +70,7 @@ pub record SoFar {P : Type 0} (asks : P → Call → Result Reply AskFault → P
   pub counted : length taken ≡ n
   pub turned : Turned turn done was n is
 
--- What came of answering commands: the session goes on, or it ends.
+-- The outcome of answering commands: the session is in progress, or has ended.
 abbrev pub Goes : {P : Type 0} → (P → Call → Result Reply AskFault → P → Type 0) → {T : Type 0} → (T → ℕ → Bool → T → Type 0) → (T → ℕ → T → Type 0) → Bool → ℕ
     → P → P → T → T → Input → Input → Output → Output → Pending → ℕ → ℕ → Result (Option Ended) ServeFault → Type 0
 Goes asks turn done readonly most old new was is had left held holds s n reads (Ok None) =

@@ -1,4 +1,4 @@
--- How a session takes its bytes line by line.
+-- How a session takes up its bytes line by line.
 use Rattle.std.specs.Prelude.{◌≡◌, ℕ, ◌+◌, ◌≤◌, ◌<◌, List, [], ◌∷◌, ◌++◌, length, take, drop, true, nat_eq, slice_index, ◌&&◌, Option, Some, None, if◌then◌else◌}
 use Rattle.click_classes.specs.declared.fault.ArgFault.{ArgFault}
 use Rattle.click_classes.specs.declared.fault.ArgFault.TheVariants as fault
@@ -24,7 +24,7 @@ says parsed.Blank = blank
 says (parsed.Whole c) = whole c
 says (parsed.Announces w handler n) = announces w handler n
 
--- the command of a line whose payload has no length, or one that is too long
+-- the command of a line whose payload length is not a number or is too great
 abbrev pub bad_count : ArgFault → Command
 bad_count fault.NoMemory = command.Syntax
 bad_count fault.ArgumentCount = command.Syntax
@@ -34,18 +34,18 @@ bad_count fault.OutOfRange = command.DataTooLong
 bad_count fault.BadAddress = command.Syntax
 bad_count fault.BadEntry = command.Syntax
 
--- how many bytes the end of a line has that begins these bytes
+-- the length of the line end with which these bytes begin
 abbrev pub end_length : List ℕ → ℕ
 end_length [] = 1
 end_length (e ∷ []) = 1
 end_length (e ∷ b ∷ bs) = if nat_eq e 13 && nat_eq b 10 then 2 else 1
 
--- With fewer bytes in all than are wanted, no command is whole.
+-- No command is whole with fewer bytes in all than are wanted.
 abbrev pub Waits : Reading → List ℕ → ℕ → Type 0
 Waits r bytes wanted = (more : List ℕ) → length bytes + length more < wanted → commands_from r (bytes ++ more) ≡ []
 
--- The place is one of the bytes, with as many of them before it as behind it at most; so many bytes from it on hold no line end; and so many are wanted for the next
--- command.
+-- The offset `at` is within the bytes, and at most half of them are before it. From it on
+-- `searched` bytes hold no line end, and `wanted` bytes are needed for the next command.
 pub record IsPlaced (at searched wanted : ℕ) (r : Reading) (bytes : List ℕ) : Type 0 where
   pub within : at + searched ≤ length bytes
   pub kept : at + at ≤ length bytes
@@ -56,33 +56,34 @@ abbrev pub optional : Option Command → List Command
 optional None = []
 optional (Some c) = c ∷ []
 
--- The first n bytes are a line with what belongs to it, and this is its command. The reading goes on from there.
+-- The first n bytes are a line with the payload that it announces, and this is its command. The
+-- reading continues after them at position `r`.
 pub record IsTaken (bytes : List ℕ) (c : Option Command) (n : ℕ) (r : Reading) : Type 0 where
   pub some : 0 < n
   pub within : n ≤ length bytes
   pub gives : (more : List ℕ) → commands_from (in_line []) (bytes ++ more) ≡ optional c ++ commands_from r (drop n bytes ++ more)
   pub last : (d : Command) → c ≡ Some d → is_last d ≡ true → r ≡ over
 
--- So many bytes are a line, and the byte after them is its end.
+-- The first n bytes are a line, and the byte after them is its end.
 pub record IsEnded (bytes : List ℕ) (n : ℕ) : Type 0 where
   pub within : n < length bytes
   pub short : n ≤ longest_line
   pub no_end : HasNoEnd (take n bytes)
   pub end : is_end (slice_index bytes n) ≡ true
 
--- No command is whole, and none is with fewer bytes than are wanted.
+-- No command is whole, and none is before `wanted` bytes have come.
 pub record IsPartial (bytes : List ℕ) (searched wanted : ℕ) : Type 0 where
   pub within : searched ≤ length bytes
   pub no_end : HasNoEnd (take searched bytes)
   pub none : commands_from (in_line []) bytes ≡ []
   pub waits : Waits (in_line []) bytes wanted
 
--- what bytes from the beginning of a line on hold
+-- the content of bytes that start at the beginning of a line
 abbrev pub IsFirstLine : List ℕ → FirstLine → Type 0
 IsFirstLine bytes (found.Partial searched wanted) = IsPartial bytes searched wanted
 IsFirstLine bytes (found.Taken c n s) = IsTaken bytes c n (reading_of s)
 
--- what a session says of its next line
+-- the outcome of taking up a session's next line
 abbrev pub TakesLine : Pending → Pending → Line → Type 0
 TakesLine old new line.Partial = Gives old new [] × (to_come new [] ≡ []) × (length new.bytes ≤ length old.bytes)
 TakesLine old new line.Blank = Gives old new [] × (length new.bytes < length old.bytes)

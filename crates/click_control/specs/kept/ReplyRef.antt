@@ -1,4 +1,4 @@
--- What a session shows of a reply.
+-- The part of a reply that a session shows.
 use Rattle.click_router.specs.declared.call.Refusal.{Refusal}
 use Rattle.click_router.specs.declared.call.Refusal.TheVariants as refusal
 use Rattle.click_router.specs.declared.call.Reply.{Reply}
@@ -15,7 +15,8 @@ refusal_of cause.WrongWay = refusal.WrongWay
 refusal_of (cause.Handler f) = refusal.Handler f
 refusal_of (cause.Config f) = refusal.Config f.now
 
--- A reply of which so much is shown. Of all that no command has nothing is shown, so one of these stands for them.
+-- A reply of which this is shown. Of the replies that no command gets nothing is shown, so
+-- `NoDevice` stands for all of them.
 abbrev pub shown_reply : ReplyRef → Reply
 shown_reply (reply_ref.Value bytes) = reply.Value bytes.now
 shown_reply reply_ref.Done = reply.Done

@@ -1,4 +1,4 @@
--- The text that answers a command, by what a session keeps of it for its reply.
+-- The text that answers a command, from what a session stores of the command for its reply.
 use Rattle.std.specs.Prelude.{ℕ, List}
 use Rattle.click_control.specs.declared.command.Answer.{Answer}
 use Rattle.click_control.specs.declared.reply.Topic.{Topic}

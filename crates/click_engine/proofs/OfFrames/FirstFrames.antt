@@ -1,4 +1,4 @@
--- The first frame of a run, and what the whole run made.
+-- Lemmas about the first frame of a packet run, and about the result of the whole run.
 use Rattle.std.proofs.Common.{◌≡◌, ℕ, ◌<◌, IsSome, IsTrue, ◌≤◌, nat_lt, refl, sym, ap, ◌∙◌, Bool, true, false, if◌then◌else◌, Option, MatchOption, Some, None, IfSome, List, [], ◌∷◌, length, take, set, get_or, arith}
 use Rattle.std.proofs.lemmas.Bool.{false≢true}
 use Rattle.std.proofs.lemmas.Bool.Decides.{nat_tests}
@@ -22,14 +22,14 @@ pub last_set : (xs : List PushFrame) (s : PushFrame) (b : Bool) → 0 < length x
 last_set [] s b l = absurd (omega (arith, l))
 last_set (x ∷ xs) s b l = refl
 
--- whether some are left
+-- the count is positive if the flag says so
 pub some_left : (b : Bool) (n : ℕ) → b ≡ nat_lt 0 n → b ≡ true → 0 < n
 some_left b n e h = grind (arith, nat_tests)
 
 pub none_left : (b : Bool) (n : ℕ) → b ≡ nat_lt 0 n → b ≡ false → n ≡ 0
 none_left b n e h = grind (arith, nat_tests)
 
--- the answer is there just where the flag says it
+-- there is an answer if and only if the flag is set
 pub answered_so : (xs : List PushFrame) (s : PushFrame) (b : Bool) → 0 < length xs → (IsTrue b → IsSome (last_of b (set xs 0 s))) × (IsSome (last_of b (set xs 0 s)) → IsTrue b)
 answered_so xs s b l = rw (last_set xs s b l) (go b)
   where
@@ -48,7 +48,7 @@ module _ (old : TransferStack) (d : ℕ) (xs : List PushFrame) (ys : List PullFr
   pub same_room : r ≡ old.room
   same_room = ap (λ (m : TransferStack). m.room) view
 
-  -- the first slot holds the answer, where there is one
+  -- without frames, the stack holds only the answer in slot 0, if there is one
   pub held : d ≤ length xs → 0 < length xs → (s : PushFrame) (b : Bool)
       → transfer_stack (frames_of (take d (set xs 0 s)) ys) (last_of b (set xs 0 s)) r ≡ transfer_stack [] (if b then Some s.packet else None) old.room
   held inside first s b =
@@ -56,7 +56,7 @@ module _ (old : TransferStack) (d : ℕ) (xs : List PushFrame) (ys : List PullFr
       let zero = no_push_frames d xs ys inside empty in
       rw (zero, none, same_room, last_set xs s b first) refl
 
-  -- a push of the answer began, and went as far as one output was to get it
+  -- the answer began as a push, and was pushed on while exactly one output got it
   module _ (net : Wiring) (w v : RunState) (at : ℕ) (u t : PushFrame) (there : u ≡ get_or xs 0 u) (over : Along net w v at 0 1 u.packet t.at t.first t.count t.packet) (fits : w.left < old.room) (inside : d ≤ length xs) (first : 0 < length xs) where
     abbrev Pushed_on : TransferStack → Option Packet → Type 0
     Pushed_on new o = IfSome o (λ p. Follows net w (transfer_stack (Sends at 0 1 p ∷ []) None old.room) v new)
@@ -74,13 +74,13 @@ module _ (old : TransferStack) (d : ℕ) (xs : List PushFrame) (ys : List PullFr
     answer_ended none =
         of_packet _ (rw (held inside first t false) (sends_done net w v at 0 1 u.packet t [] None old.room over (omega (arith, fits)) none)) old.last (ap (λ (m : TransferStack). m.last) view)
 
-  -- a pull began, and its first turn was made
+  -- a pull began, and its first engine turn was made
   module _ (net : Wiring) (w v : RunState) (at : ℕ) (s : PushFrame) (rep : PullResult) (over : Reached net w v at 0 s.packet rep) (fits : w.left < old.room) (inside : d ≤ length xs) (first : 0 < length xs) where
     pub pulled_ended : rep.count ≡ 0
         → Follows net w (transfer_stack (Pulls at 0 ∷ []) None old.room) v (transfer_stack (frames_of (take d (set xs 0 s)) ys) (last_of rep.held (set xs 0 s)) r)
     pulled_ended none = rw (held inside first s rep.held) (of_turn net w v _ _ (pulls_ended net w v [] old.room s.packet rep None at 0 over none (omega (arith, fits))))
 
-    -- the inputs of the element that it led to are asked at once
+    -- the inputs of the element that the pull led to are asked at once
     pub pulled_further : (u : RunState) (new : TransferStack) → 0 < rep.count → Follows net v (transfer_stack (Asks rep.at rep.inputs rep.count rep.first 0 ∷ []) None r) u new
         → Follows net w (transfer_stack (Pulls at 0 ∷ []) None old.room) u new
     pulled_further u new more later =
@@ -89,14 +89,14 @@ module _ (old : TransferStack) (d : ℕ) (xs : List PushFrame) (ys : List PullFr
   pub still_done : d ≤ length xs → (s : PushFrame) → frames_of (take d (set xs 0 s)) ys ≡ []
   still_done inside s = rw (no_asks (take d xs) ys empty, no_push_frames d xs ys inside empty) refl
 
--- what a source gave is the answer
+-- the packet that a source emitted is the answer
 pub taken : (b : Bool) (q : Packet) (m : TransferStack) (room : ℕ) → m ≡ transfer_stack [] (if b then Some q else None) room → (w v : RunState) (X : Stored → Type 0) (o : Option Stored)
     → MatchOption o ((b ≡ false) × (v ≡ w)) (λ s. (b ≡ true) × (s.packet ≡ q) × X s)
     → MatchOption o ((b ≡ false) × (v ≡ w) × (m ≡ transfer_stack [] None room)) (λ s. (b ≡ true) × X s × (m ≡ transfer_stack [] (Some s.packet) room))
 taken b q m room h w v X None f = (f.0, f.1, h ∙ rw f.0 refl)
 taken b q m room h w v X (Some s) f = (f.0, f.2, h ∙ rw (f.0, f.1) refl)
 
--- the first packet of a run of a source's task is the answer
+-- the first packet of a source's task is the answer
 pub taken_first : (most burst : ℕ) (some : Bool) → nat_lt 0 burst ≡ some → (q : Packet) (m : TransferStack) (room : ℕ) → m ≡ transfer_stack [] (if nat_lt 0 most then Some q else None) room
     → (w v : RunState) (X : Stored → Type 0) (o : Option Stored)
     → MatchOption (if some then o else None) ((most ≡ 0) × (v ≡ w)) (λ s. (most ≡ burst) × (s.packet ≡ q) × X s)
@@ -112,7 +112,7 @@ module _ (net : Wiring) (w v : RunState) (m : TransferStack) (a : Option Packet)
   pub ran_pull : m ≡ transfer_stack (Pulls at 0 ∷ []) None r → complete net w m ≡ left_with v a → pull net w.left w at 0 ≡ left_with v a
   ran_pull e f = rw e at f
 
--- where no frame is left, the run is over
+-- if no frame is left, the packet run is complete
 pub ran_done : (net : Wiring) (v : RunState) (m : TransferStack) → m.frames ≡ [] → complete net v m ≡ left_with v m.last
 ran_done net v m none = rw none refl
 

@@ -1,4 +1,4 @@
--- One turn, by the frame on top.
+-- Lemmas about one engine turn, by the topmost frame.
 use Rattle.std.proofs.Common.{◌≡◌, ℕ, suc, ◌+◌, ◌-◌, ◌<◌, ◌≤◌, refl, sym, ap, ◌∙◌, Option, Some, None, List, [], ◌∷◌, length, Bool, true, false, if◌then◌else◌, arith}
 use Rattle.click_packet.specs.Packet.{Packet}
 use Rattle.click_classes.specs.Acts.{after}
@@ -29,7 +29,7 @@ to_do-less a b [] h = omega arith
 to_do-less a b (f ∷ fs) h = omega (arith, to_do-less a b fs h)
 
 module _ (net : Wiring) where
-  -- an output is served, and then the others
+  -- a push at several outputs is a push at the first one, and then at the others
   pub sends-next : (w : RunState) (a : Option Packet) (at first count n : ℕ) (p : Packet) → count ≡ suc n
       → resume net (Sends at first count p) (left_with w a) ≡ resume net (Sends at (first + 1) n p) (left_with (push net w.left w at first p) a)
   sends-next w a at first count n p e =
@@ -38,7 +38,7 @@ module _ (net : Wiring) where
       spread-suc (λ u o. push net w.left u at o p) count n first w e
       ∙ sent-slack net w.left v.left at p n (first + 1) v (push-left net w.left w at first p) (omega arith))
 
-  -- an input is asked, and then the others
+  -- asking several inputs is asking the first one, and then the others
   pub asks-next : (w : RunState) (at ins count n input back : ℕ) → count ≡ suc n
       → resume net (Asks at ins count input back) (left_with w None) ≡ resume net (Asks at ins n (after ins input) input) (pull net w.left w at input)
   asks-next w at ins count n input back e = go (pull net w.left w at input) refl (pull net w.left w at input).packet refl
@@ -60,7 +60,7 @@ module _ (net : Wiring) where
           ∙ ap (λ (s : Pulled). given net w.left at s.run_state input p) same
           ∙ given-slack net w.left r.run_state.left at r.run_state input p less (omega arith))
 
-  -- what is known of the transfer stack before and after
+  -- a turn between the known stacks is a turn between the stacks that are equal to them
   pub turn_at : (w v : RunState) (old new : TransferStack) (fs gs : List Frame) (a b : Option Packet) (r : ℕ) → old ≡ transfer_stack fs a r → new ≡ transfer_stack gs b r
       → (length fs + w.left ≤ r → IsTurn net w (transfer_stack fs a r) v (transfer_stack gs b r)) → length old.frames + w.left ≤ old.room → IsTurn net w old v new
   turn_at w v old new fs gs a b r e f t h =

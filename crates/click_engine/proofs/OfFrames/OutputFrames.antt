@@ -1,4 +1,4 @@
--- A packet that is pushed at several outputs, from the slot on top by the one above it.
+-- Lemmas about a packet that is pushed at several outputs, from its slot through the slot above it.
 use Rattle.std.proofs.Common.{◌≡◌, ℕ, zero, suc, ◌+◌, ◌-◌, ◌<◌, ◌≤◌, ◌⊎◌, inl, inr, refl, sym, ap, ◌∙◌, Bool, if◌then◌else◌, Some, None, List, [], ◌∷◌, ◌++◌, length, take, set, get_or, arith}
 use Rattle.std.proofs.lemmas.List.{take-set, take-take, take-append-le, get_or-set_same, get_or_default, get_or-take, get_or_append_left, length-set, length-append, get_or-append-add}
 use Rattle.click_packet.specs.Packet.{Packet}
@@ -14,7 +14,7 @@ use Rattle.click_engine.proofs.OfFrames.FrameTurns.{transfer_stack, left_with, s
 use Rattle.click_engine.proofs.OfFrames.PushFrames.{to_do-moved}
 use Rattle.click_engine.proofs.OfFrames.SlotFrames.{transfer_stack_is, frames-more, last-take}
 
--- some turns, and then some more
+-- two sequences of turns, one after the other, are a sequence of turns
 pub follows_on : (net : Wiring) (w u v : RunState) (a b c : TransferStack) → Follows net w a u b → Follows net u b v c → Follows net w a v c
 follows_on net w u v a b c f g = record {
   keeps = g.keeps ∙ f.keeps;
@@ -25,7 +25,7 @@ follows_on net w u v a b c f g = record {
 }
 
 module _ (net : Wiring) where
-  -- nothing was served yet
+  -- no output was served yet
   pub served_none : (w : RunState) (s u : PushFrame) → u.count ≡ 0 → Served net w w s s u
   served_none w s u e = record {
     made = ap (λ (x : RunState). sent net x.left s.at s.packet s.count s.first x) (spread-zero (λ x o. push net w.left x u.at o u.packet) u.count u.first w e);
@@ -36,7 +36,7 @@ module _ (net : Wiring) where
     more = λ h. absurd (omega arith);
   }
 
-  -- one output more
+  -- one more output was served
   pub served_more : (w v x : RunState) (s t u m z : PushFrame) → Served net w v s t u → u.count ≡ 0 → 1 < t.count
       → Along net v x t.at t.first 1 t.packet z.at z.first z.count z.packet → (z.count ≡ 0) ⊎ (1 < z.count)
       → m.at ≡ t.at → m.first ≡ t.first + 1 → m.count ≡ t.count - 1 → m.packet ≡ t.packet → Served net w x s m z
@@ -58,7 +58,7 @@ module _ (net : Wiring) where
         more = λ h. elim ends [ inl e ↦ absurd (omega (arith, e, h)) | inr k ↦ omega (arith, over.more k refl, old.falls, count_is, some) ];
       }
 
--- the answer in the first slot stays
+-- the answer in slot 0 stays
 last_served : (got : Bool) (xs zs : List PushFrame) (k : ℕ) (s t : PushFrame) → k < length xs → k < length zs → take k zs ≡ take k xs
     → s ≡ get_or xs k s → t ≡ get_or zs k t → t.packet ≡ s.packet → last_of got zs ≡ last_of got xs
 last_served got [] zs zero s t h l b e f g = absurd (omega arith)
@@ -115,7 +115,7 @@ module _ (net : Wiring) (w v : RunState) (old : TransferStack) (d : ℕ) (xs : L
       } in
       rw (before, upper, last_same) follows
 
--- what the two parts of the slots tell
+-- what holds of the two parts of the slots holds of all slots
 pub served_above : (net : Wiring) (w v : RunState) (old behind ahead : List PushFrame) (top : ℕ) (s t u : PushFrame) → old ≡ behind ++ ahead → length behind ≡ top + 1 → 0 < length ahead
     → s ≡ get_or behind top s → Served net w v s t u → ServedAbove net w v old (set behind top t ++ set ahead 0 u) top
 served_above net w v old behind ahead top s t u whole front back s_is served =

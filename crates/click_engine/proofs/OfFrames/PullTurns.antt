@@ -1,4 +1,4 @@
--- A turn where a pull is on top, by what it read and wrote in the slots.
+-- Lemmas about an engine turn if a pull is on top, by what it read and wrote in the slots.
 use Rattle.std.proofs.Common.{◌≡◌, ℕ, ◌+◌, ◌-◌, ◌<◌, ◌≤◌, refl, sym, ap, ◌∙◌, Bool, true, false, if◌then◌else◌, Option, Some, None, IsSome, List, [], ◌∷◌, ◌++◌, length, take, set, get_or, arith}
 use Rattle.std.proofs.lemmas.Bool.{false≢true}
 use Rattle.click_packet.specs.Packet.{Packet}
@@ -39,7 +39,7 @@ module _ (old : TransferStack) (d : ℕ) (xs : List PushFrame) (ys : List PullFr
       let there : frames_of [] ys ≡ old.frames = ap (λ k. frames_of (take k xs) ys) (sym no_sends) ∙ ap (λ (m : TransferStack). m.frames) view in
       ap (take 1) (sym there ∙ here)
 
--- a frame that is read on top
+-- if a frame is on top, there is a frame
 some_top : (fs : List Frame) (f : Frame) → take 1 fs ≡ f ∷ [] → 0 < length fs
 some_top [] f e = absurd (cc)
 some_top (x ∷ fs) f e = omega arith
@@ -94,7 +94,7 @@ module _ (net : Wiring) (w v : RunState) (f : Frame) (old : TransferStack) (d : 
       let there : old.frames ≡ asks_of z ∷ below = sym (ap (λ (m : TransferStack). m.frames) view) ∙ here in
       sym view ∙ transfer_stack_is _ _ _ _ r (ap (λ (m : TransferStack). m.frames) view ∙ same_top old.frames f (asks_of z) below there top) e
 
-  -- the frames are those of the asks alone
+  -- if no push is left, all frames are pulls
   alone : (ss : List PushFrame) (zs : List PullFrame) (fs : List Frame) → frames_of [] zs ≡ fs → frames_of (take d ss) zs ≡ fs
   alone ss zs fs e = ap (λ k. frames_of (take k ss) zs) zero_is ∙ e
 

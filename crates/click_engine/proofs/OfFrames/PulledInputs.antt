@@ -1,4 +1,4 @@
--- Inputs that are asked one after the other.
+-- Lemmas about inputs that are asked one after another.
 use Rattle.std.proofs.Common.{◌≡◌, ℕ, zero, suc, ◌+◌, ◌-◌, ◌<◌, ◌≤◌, refl, sym, ◌∙◌, Bool, true, false, nat_lt, Some, None, if◌then◌else◌, List, [], ◌∷◌, ◌++◌, length, take, set, arith}
 use Rattle.std.proofs.lemmas.Bool.{false≢true}
 use Rattle.std.proofs.lemmas.Bool.Decides.{nat_tests}
@@ -27,7 +27,7 @@ not_both (suc n) b f e = absurd (false≢true (sym (f (omega arith)) ∙ e))
 positive : (n : ℕ) → 0 < n → nat_lt 0 n ≡ true
 positive n h = grind (arith, nat_tests)
 
--- one input more was asked
+-- one more input was asked
 module _ (net : Wiring) (w u v : RunState) (s t m : InputScan) (q : Packet) (rep : PullResult)
     (old : (room : ℕ) → w.left < room → Follows net w (transfer_stack (asks_now s ∷ []) None room) u (transfer_stack (asks_now t ∷ []) None room))
     (some : 0 < t.count) (over : Reached net u v t.at t.input q rep) (on : asks_now m ≡ Asks t.at t.inputs (t.count - 1) (after t.inputs t.input) t.input) where
@@ -61,7 +61,7 @@ module _ (net : Wiring) (w u v : RunState) (s t m : InputScan) (q : Packet) (rep
     over = λ quiet none. absurd (omega (arith, more, none));
   }
 
-  -- it was the last
+  -- this input was the last one to ask
   pub asked_all : rep.held ≡ false → rep.count ≡ 0 → m.count ≡ 0 → Asked net w v s m q rep
   asked_all quiet none over_all = record {
     follows = λ room h. rw none (moved_to none room h);
@@ -69,14 +69,14 @@ module _ (net : Wiring) (w u v : RunState) (s t m : InputScan) (q : Packet) (rep
     over = λ _ _. over_all;
   }
 
--- an element that is asked further has room for its frame
+-- there is room for the frame of an element that is asked further
 pub two_fit : (net : Wiring) (w v : RunState) (s t : InputScan) (p : Packet) (rep : PullResult) → Asked net w v s t p rep → (room : ℕ) → w.left < room → 0 < rep.count → 1 < room
 two_fit net w v s t p rep over room h more =
     let fits = (over.follows room h).fits in
     let two : 2 + v.left ≤ room = rw (positive rep.count more) at fits in
     omega (arith, two)
 
--- what the slots have then
+-- the slots after these inputs were asked
 module _ (old : TransferStack) (d : ℕ) (xs : List PushFrame) (ys : List PullFrame) (got : Bool) (r : ℕ)
     (view : transfer_stack (frames_of (take d xs) ys) (last_of got xs) r ≡ old) (done : old.frames ≡ []) (inside : d ≤ length xs) (first : 0 < length xs)
     (net : Wiring) (w v : RunState) (a t : InputScan) (p : Packet) (rep : PullResult) (over : Asked net w v a t p rep) (fits : w.left < old.room) (s : PushFrame) where

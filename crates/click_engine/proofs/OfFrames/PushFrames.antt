@@ -1,4 +1,4 @@
--- A packet that is pushed on, step by step, from the slot on top.
+-- Lemmas about a packet in the topmost slot that is pushed on, step by step.
 use Rattle.std.proofs.Common.{◌≡◌, ℕ, ◌+◌, ◌*◌, ◌-◌, ◌<◌, ◌≤◌, ◌⊎◌, refl, sym, ap, ◌∙◌, Bool, false, Option, List, [], ◌∷◌, length, take, set, get_or, arith}
 use Rattle.std.proofs.lemmas.List.{take-set}
 use Rattle.click_packet.specs.Packet.{Packet}

@@ -1,4 +1,4 @@
--- A turn where a push is on top, by what it read and wrote in the slots.
+-- Lemmas about an engine turn if a push is on top, by what it read and wrote in the slots.
 use Rattle.std.proofs.Common.{◌≡◌, ℕ, ◌+◌, ◌-◌, ◌<◌, ◌≤◌, ◌⊎◌, refl, sym, ap, ◌∙◌, Bool, true, false, List, ◌∷◌, length, take, set, get_or, arith}
 use Rattle.std.proofs.lemmas.List.{take-set, get_or-set_same, get_or_default, length-take-le}
 use Rattle.click_engine.specs.RunState.{Wiring, RunState}

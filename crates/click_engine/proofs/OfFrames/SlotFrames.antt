@@ -1,4 +1,4 @@
--- The frames in the slots, after one slot is read or written.
+-- Lemmas about the frames in the slots after one slot was read or written.
 use Rattle.std.proofs.Common.{◌≡◌, ℕ, zero, suc, ◌+◌, ◌<◌, ◌≤◌, ◌⊎◌, refl, sym, ap, ◌∙◌, Bool, true, false, List, [], ◌∷◌, ◌++◌, length, take, set, get_or, map, reverse, Option, Some, None, nat_lt, inl, inr, arith}
 use Rattle.std.proofs.lemmas.List.{take_more, take_more_set, reverse-append, take_all, length-append, length-map, length-reverse, length-take-le, length-set, nil_from_length}
 use Rattle.std.proofs.lemmas.Bool.Decides.{nat_tests}
@@ -29,7 +29,7 @@ frames-set d xs ys s h =
 pub asks-more : (ys : List PullFrame) (y : PullFrame) → frames_of [] (ys ++ y ∷ []) ≡ asks_of y ∷ frames_of [] ys
 asks-more ys y = ap (λ zs. map asks_of zs) (reverse-append ys (y ∷ []))
 
--- the last answer lies in the first slot
+-- a write to a slot above slot 0 does not change the answer
 pub last-above : (got : Bool) (xs : List PushFrame) (i : ℕ) (s : PushFrame) → 0 < i → last_of got (set xs i s) ≡ last_of got xs
 last-above got [] i s h = refl
 last-above got (x ∷ xs) zero s h = absurd (omega arith)
@@ -60,7 +60,7 @@ pub last-free : (got : Bool) (xs : List PushFrame) (i : ℕ) (s : PushFrame) →
 last-free got xs i s (inl h) = last-above got xs i s h
 last-free got xs i s (inr e) = rw e (last-none (set xs i s) ∙ sym (last-none xs))
 
--- which frame is on top
+-- whether a push is on top
 pub asks_first : (zs : List PullFrame) → sends_first (map asks_of zs) ≡ false
 asks_first [] = refl
 asks_first (Pull at input ∷ zs) = refl

@@ -1,4 +1,4 @@
--- What runs keep, of what each element keeps.
+-- Packet runs preserve the properties that every packet preserves of an element.
 use Rattle.std.proofs.Common.{◌≡◌, ℕ, zero, suc, ◌+◌, refl, ap, sym, ◌∙◌, subst, List, [], ◌∷◌, length, map, get_or, Some, arith}
 use Rattle.std.proofs.lemmas.List.{get_or_default}
 use Rattle.std.proofs.lemmas.List.Elements.{All-nil, All-cons}
@@ -67,7 +67,7 @@ round-settings v = settings_of v _ (round-kept Anywhere SameFixed fixed-relates 
 
 -- ---- queues
 
--- what holds of each element before holds of each after
+-- a property that each element preserves holds of all of them
 pub all_after : (Q : Element → Type 0) (es fs : List Element) → length fs ≡ length es → ((at : ℕ) → Q (get_or es at blank) → Q (get_or fs at blank)) → All Q es → All Q fs
 all_after Q es fs count each h k d inside = subst Q (get_or_default fs k blank d inside) (each k (h k blank (omega (arith, inside, count))))
 
@@ -105,7 +105,7 @@ started-sound net at (s ∷ ss) h =
 pub begins-sound : (net : Net) (states : List State) (v : Plant) → IsStarted net states v → All IsSound states → AreSound v
 begins-sound net states v is h = subst (λ es. All (λ (e : Element). IsSound e.state) es) (sym is.elements_are) (started-sound net 0 states h)
 
--- ---- reach
+-- ---- reachable elements
 
 abbrev UnlessReached : (ℕ → Type 0) → ℕ → Element → Element → Type 0
 UnlessReached P at e f = (P at → ⊥) → f ≡ e

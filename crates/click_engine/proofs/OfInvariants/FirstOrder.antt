@@ -1,4 +1,4 @@
--- A plant begins in order, and swaps and changes of one element leave it so.
+-- A plant begins in order; swaps, and changes of one element, leave it in order.
 use Rattle.std.proofs.Common.{◌≡◌, ℕ, zero, suc, ◌+◌, ◌<◌, inl, inr, true, refl, sym, ap, ◌∙◌, subst, List, [], ◌∷◌, length, get_or, map, option_map, slice_get, slice_set, Option, Some, None, arith}
 use Rattle.std.specs.List.{All}
 use Rattle.std.proofs.lemmas.Bool.{cases_eq}
@@ -27,9 +27,9 @@ use Rattle.click_engine.proofs.OfInvariants.PlantOrder.{IsAlike, plant-in-order}
 use Rattle.click_engine.proofs.OfInvariants.ElementInvariants.{begins-sound}
 use Rattle.click_engine.proofs.OfPlants.ElementTakeOver.{all_sound, all_fitting}
 
--- ---- the beginning
+-- ---- a plant that begins
 
--- each state's class is that of its shape, from a place on
+-- each state has the class of its shape; the shapes are taken from an index on
 abbrev AreShaped : Net → ℕ → List State → Type 0
 AreShaped net from ss = (k : ℕ) (s : State) → slice_get ss k ≡ Some s → option_map (λ (x : Shape). x.class) (slice_get net.shapes (from + k)) ≡ Some (class s)
 

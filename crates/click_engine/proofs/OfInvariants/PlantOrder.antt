@@ -1,4 +1,4 @@
--- What packets, handlers and swaps leave in order.
+-- Packets, handlers and swaps leave a plant in order.
 use Rattle.std.proofs.Common.{◌≡◌, ℕ, refl, sym, ap, ◌∙◌, subst, List, length, get_or, Some, arith}
 use Rattle.std.specs.List.{All}
 use Rattle.click_packet.specs.Packet.{Packet}
@@ -29,7 +29,7 @@ pub record IsAlike (e f : Element) : Type 0 where
 alike : (e : Element) → IsAlike e e
 alike e = record { inputs = refl; outputs = refl; its_class = refl }
 
--- ---- elements in the place of others
+-- ---- elements that replace others
 
 pub as-placed : (net : Net) (at : ℕ) (e f : Element) → IsAlike e f → IsPlaced net at e → IsPlaced net at f
 as-placed net at e f a h = record {
@@ -48,7 +48,7 @@ module _ (net : Net) (es fs : List Element) (h : AreInOrder net es) (count : len
     sound = sound;
   }
 
--- a plant with such elements, and with the net and the devices of the other
+-- a plant with such elements, and with the net and the devices of the other, is in order
 pub plant-in-order : (v w : Plant) → IsInOrder v → w.net ≡ v.net → w.sources ≡ v.sources → w.sinks ≡ v.sinks → length w.elements ≡ length v.elements
     → ((at : ℕ) → IsAlike (get_or v.elements at blank) (get_or w.elements at blank))
     → All Fits w.elements → All (λ (e : Element). IsSound e.state) w.elements → IsInOrder w
@@ -60,7 +60,7 @@ plant-in-order v w h net sources sinks count each fitting sound = record {
 
 -- ---- packets
 
--- all that packets keep of an element
+-- what packets preserve of an element
 pub record KeptBy (at : ℕ) (e f : Element) : Type 0 where
   pub same : SameFixed at e f
   pub fits : FitsAfter at e f

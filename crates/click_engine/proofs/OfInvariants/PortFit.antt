@@ -1,4 +1,4 @@
--- Elements fit their ports, and packets leave them so.
+-- Elements fit their ports at first, and packets preserve that.
 use Rattle.std.proofs.Common.{◌≡◌, ℕ, zero, suc, ◌+◌, refl, sym, ap, subst, List, [], ◌∷◌, map, Some, arith}
 use Rattle.std.specs.Prelude.{slice_get}
 use Rattle.std.specs.List.{All}
@@ -49,7 +49,7 @@ transmit-fitting v device = fitting_of v _ (transmit-kept Anywhere FitsAfter fit
 pub round-fitting : (v : Plant) → AreFitting v → AreFitting (round v).plant
 round-fitting v = fitting_of v _ (round-kept Anywhere FitsAfter fits-relates v (whole (wiring v)) (anywhere v.tasks))
 
--- ---- at the beginning
+-- ---- a plant that begins
 
 abbrev pub IsSet : State → Type 0
 IsSet s = settings s ≡ s

@@ -1,4 +1,4 @@
--- The same over runs, tasks and rounds.
+-- A relation that packets preserve holds between each element before and after a task or a round.
 use Rattle.std.proofs.Common.{◌≡◌, ℕ, zero, suc, refl, sym, ap, ◌∙◌, subst, List, [], ◌∷◌, slice_get, Option, Some, None}
 use Rattle.click_packet.specs.Packet.{Packet}
 use Rattle.click_classes.specs.Acts.{Stored, burst_of, emission}
@@ -16,12 +16,13 @@ use Rattle.click_engine.specs.RunState.{RunState, element_at, with_state}
 use Rattle.click_engine.proofs.OfInvariants.RunRelations.{Relates, Kept, kept-same, kept-on, kept-set, push-kept, pull-kept}
 use Rattle.click_engine.proofs.OfRuns.RoundTasks.{bursts-zero, burst-next, burst_by, tasks-none, tasks-next}
 
--- nothing changed but elements and overruns, and there are as many elements, each related to what it was
+-- nothing changed except elements and overruns, there are as many elements as before, and each is
+-- related to what it was
 pub record PlantKept (R : ℕ → Element → Element → Type 0) (old new : Plant) : Type 0 where
   pub rest : KeepsRest old new
   pub elements : Kept R old.elements new.elements
 
--- what a task makes of what its pull left
+-- the result of a task, given the result of its pull
 abbrev unqueued_by : Plant → ℕ → RunState → Option Packet → RoundResult
 unqueued_by v at w o = elim o [
   | None ↦ record { plant = end v w; packets = 0 }

@@ -1,4 +1,5 @@
--- A relation that holds where an element acts, gives or is asked holds of each element before and after a push or a pull.
+-- A relation that each step of an element preserves holds between each element before and after a
+-- push or a pull.
 use Rattle.std.proofs.Common.{◌≡◌, ℕ, zero, suc, ◌+◌, ◌<◌, inl, inr, refl, sym, ◌∙◌, subst, List, length, set, get_or, Option, Some, None, arith}
 use Rattle.std.proofs.lemmas.Bool.{cases_lt, cases_eq}
 use Rattle.std.proofs.lemmas.List.{get_or-set_same, get_or-set_other, set_past, length-set}
@@ -16,7 +17,7 @@ use Rattle.click_engine.proofs.OfRuns.RunSteps.{push-none, push-unconnected, pus
 abbrev pub in_state : Element → State → Element
 in_state e s = record e { state = s }
 
--- what R has to be for places of P
+-- R is preserved by each step of the elements with an index in P
 pub record Relates (P : ℕ → Type 0) (R : ℕ → Element → Element → Type 0) : Type 0 where
   pub same : (at : ℕ) (e : Element) → R at e e
   pub on : (at : ℕ) (e f g : Element) → R at e f → R at f g → R at e g
@@ -25,7 +26,7 @@ pub record Relates (P : ℕ → Type 0) (R : ℕ → Element → Element → Typ
   pub held : (at : ℕ) (e : Element) (s : Stored) → P at → stored e.state ≡ Some s → R at e (in_state e s.state)
   pub emitted : (at : ℕ) (e : Element) (s : Stored) → P at → emission e.state ≡ Some s → R at e (in_state e s.state)
 
--- as many elements, each related to what it was
+-- there are as many elements as before, and each is related to what it was
 pub record Kept (R : ℕ → Element → Element → Type 0) (old new : List Element) : Type 0 where
   pub count : length new ≡ length old
   pub each : (at : ℕ) → R at (get_or old at blank) (get_or new at blank)

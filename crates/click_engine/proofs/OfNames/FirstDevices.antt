@@ -1,4 +1,4 @@
--- The devices of a list of elements, each with the first element that names it.
+-- Lemmas about the devices of a list of elements, each with the first element that names it.
 use Rattle.std.proofs.Common.{◌≡◌, ◌≢◌, ◌⊎◌, inl, inr, ℕ, suc, ◌+◌, refl, sym, ap, ◌∙◌, ◌<◌, arith, List, [], ◌∷◌, ◌++◌, length, length-take-le, take, get_or, Bool, true, false, cond, position, Option, Some, None}
 use Rattle.std.specs.Prelude.{if◌then◌else◌, ◌||◌}
 use Rattle.std.specs.Str.{bytes_eq}
@@ -112,7 +112,7 @@ devices-push [] (q ∷ places) n p e = absurd (omega (arith, e))
 devices-push (m ∷ names) [] n p e = absurd (omega (arith, e))
 devices-push (m ∷ names) (q ∷ places) n p e = ap (λ ds. device m q ∷ ds) (devices-push names places n p (omega (arith, e)))
 
--- one element more that names a device: one that is known, or a new one
+-- one more element names a device, which is known already or is new
 pub known_again : (names : List (List ℕ)) (places : List ℕ) (n : List ℕ) (p : ℕ) → length names ≡ length places → has_name n names ≡ true
     → devices names places ≡ added n p (devices names places)
 known_again names places n p e h = rw (has-names n names places e, h) refl
@@ -135,7 +135,7 @@ module _ (w : PacketDirection) (ss : List State) (at : ℕ) (s : State) (inside 
   pub one_device : (n : List ℕ) → Some n ≡ device_of w s → added n at (devices_from w 0 (take at ss)) ≡ devices_from w 0 (take (at + 1) ss)
   one_device n e = ap (λ o. noted o at (devices_from w 0 (take at ss))) e ∙ sym next_device
 
--- the element of a device, by its place among the names
+-- the element of a device, by the device's index among the names
 abbrev pub beside : List ℕ → Option ℕ → Option ℕ
 beside places None = None
 beside places (Some i) = slice_get places i

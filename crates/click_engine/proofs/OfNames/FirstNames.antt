@@ -1,4 +1,4 @@
--- The table of names finds the first element of each.
+-- The table of names finds the first element of each name.
 use Rattle.std.proofs.Common.{◌≡◌, ℕ, suc, ◌+◌, ◌<◌, refl, sym, ap, ◌∙◌, arith, List, [], ◌∷◌, ◌++◌, length, length-take-le, take, get_or, Bool, true, false, cond, position, Option, Some, None}
 use Rattle.std.specs.Prelude.{if◌then◌else◌, ◌||◌}
 use Rattle.std.specs.Str.{bytes_eq}
@@ -11,7 +11,7 @@ use Rattle.click_scopes.specs.Elements.{has_name}
 use Rattle.click_engine.specs.Devices.{element_with}
 use Rattle.click_engine.specs.kept.Tables.{devices, FindsFirst}
 
--- what was found, else the place where it is the name's turn
+-- the index that was found before, or else this index if it has the name
 abbrev or_here : Option ℕ → Bool → ℕ → Option ℕ
 or_here None here at = if here then Some at else None
 or_here (Some p) here at = Some p
@@ -49,7 +49,7 @@ table-push (m ∷ names) (q ∷ places) n p name e = go (bytes_eq name m) (table
     go true h = refl
     go false h = h
 
--- a name that is there is found
+-- a name in the list is found
 there : (names : List (List ℕ)) (places : List ℕ) (n name : List ℕ) (p : ℕ) → length names ≡ length places → has_name n names ≡ true → bytes_eq name n ≡ true
     → element_with (devices names places) name ≡ or_here (element_with (devices names places) name) true p
 there [] places n name p e h same = absurd (false≢true h)
@@ -85,7 +85,7 @@ module _ (all names : List (List ℕ)) (places : List ℕ) (at : ℕ) (n : List 
       ap (position (bytes_eq name)) (take_more all at [] inside ∙ ap (λ m. take at all ++ m ∷ []) (sym here)) ∙ first-push name (take at all) n
       ∙ ap (or_here (position (bytes_eq name) (take at all)) (bytes_eq name n)) len ∙ ap (λ o. or_here o (bytes_eq name n) at) (sym (found name))
 
-  -- an element whose name is known, and one with a new name
+  -- one more element has a known name, or a new one
   pub known_name : has_name n names ≡ true → FindsFirst (devices names places) (take (at + 1) all)
   known_name h name = again names places n name at even h ∙ sym (next name)
 

@@ -1,4 +1,4 @@
--- Names that are compared one after the other.
+-- Lemmas about names that are compared one after another.
 use Rattle.std.proofs.Common.{◌≡◌, ℕ, zero, suc, ◌+◌, ◌<◌, refl, sym, ap, ◌∙◌, Bool, true, false, cond, Some, List, [], ◌∷◌, ◌++◌, length, take, drop, get_or, arith}
 use Rattle.std.specs.Prelude.{position}
 use Rattle.std.specs.List.{position_from}
@@ -10,7 +10,7 @@ use Rattle.std.proofs.lemmas.Slice.Eq.{bytes_eq-Decides}
 use Rattle.std.proofs.lemmas.Iterator.Adapters.{position_from-zero}
 use Rattle.click_engine.specs.kept.Tables.{texts}
 
--- names that differ anywhere are two
+-- names with different bytes are not equal
 pub not_one : (xs ys : List ℕ) → (xs ≡ ys → ⊥) → false ≡ bytes_eq xs ys
 not_one xs ys h =
     elim (bytes_eq xs ys) as (λ b. bytes_eq xs ys ≡ b → false ≡ b) [
@@ -18,11 +18,11 @@ not_one xs ys h =
       | false ↦ λ _. refl
     ] refl
 
--- names of one length whose bytes agree are one
+-- names of the same length whose bytes are equal are equal
 pub are_one : (xs ys : List ℕ) → length xs ≡ length ys → ((i : ℕ) → i < length xs → get_or xs i 0 ≡ get_or ys i 0) → true ≡ bytes_eq xs ys
 are_one xs ys long each = sym ((bytes_eq-Decides xs ys).1 (same_lists xs ys long (λ k d h. get_or_default xs k d 0 h ∙ each k h ∙ sym (get_or_default ys k d 0 (omega (arith, h, long))))))
 
--- the place is found among the names from `at` on
+-- the name is not among the first `at` names
 abbrev pub FoundFrom : List ℕ → List (List ℕ) → ℕ → Type 0
 FoundFrom name names at = position (bytes_eq name) names ≡ position_from (bytes_eq name) at (drop at names)
 
@@ -50,7 +50,7 @@ module _ (name : List ℕ) (vecs : List (Vec ℕ Global)) (at : ℕ) (v : Vec �
   pub found_later : bytes_eq name v.items ≡ false → FoundFrom name (texts vecs) (at + 1)
   found_later e = by_first false e
 
--- where there are eight, no further one is near
+-- if there are eight names, no further one is among the first eight
 pub near_full : (names : List (Vec ℕ Global)) (name : List ℕ) → length names ≡ 8 → texts names ≡ take 8 (texts names ++ name ∷ [])
 near_full names name e =
     let long : length (texts names) ≡ 8 = length-map names (λ (n : Vec ℕ Global). n.items) ∙ e in

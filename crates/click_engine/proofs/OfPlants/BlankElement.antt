@@ -1,4 +1,4 @@
--- Past the last element there is a blank one, which keeps no state.
+-- Past the last element there is a blank one, whose state never changes.
 use Rattle.std.proofs.Common.{◌≡◌, ℕ, zero, suc, List, [], ◌∷◌, set, ◌≤◌, length, refl, sym, ap, false, None}
 use Rattle.std.proofs.lemmas.List.{get_or_past, set_past}
 use Rattle.click_packet.specs.Packet.{Packet}
@@ -16,7 +16,7 @@ module _ (w : RunState) (at : ℕ) (past : length w.elements ≤ at) where
   pub state_past : (s : State) → with_state w at s ≡ w
   state_past s = ap (λ es. record w { elements = es }) (set_past w.elements at _ past)
 
--- an Idle gives nothing on
+-- an Idle passes nothing on
 abbrev unanswered : State → Packet → PullEffect
 unanswered s p = record { state = s; packet = p; copies = record { first = 0; count = 0 }; answers = false }
 

@@ -1,4 +1,4 @@
--- Each port that an element has is joined to a port that an element has.
+-- In a lawful net each port of an element is connected to a port of an element.
 use Rattle.std.proofs.Common.{◌≡◌, ℕ, zero, suc, ◌<◌, inl, inr, Bool, true, false, refl, sym, ap, ◌∙◌, List, [], ◌∷◌, length, get_or, Contains, Some, arith}
 use Rattle.std.proofs.lemmas.Bool.{cases_lt}
 use Rattle.std.proofs.lemmas.List.{get_or_past}
@@ -55,7 +55,7 @@ joined-at near far ss cs at n k h =
     let (c, there, e) = has-connection ss cs (port_at near at n) k h in
     followed near far cs at n c there (is_end near c at n e)
 
--- a push output is joined to what its connection names, and a pull input too
+-- a push output, or a pull input, is connected to the end that its connection names
 pub target-named : (ss : List Shape) (cs : List Connection) (c : Connection) → Lawful ss cs → Contains cs c → IsPush ss cs (joined_port Output c)
     → first_joined Output Input cs c.from c.out_port ≡ Some (end_of Input c)
 target-named ss cs c k there push =
@@ -88,7 +88,7 @@ module _ (net : Net) (es : List Element) (h : AreInOrder net es) where
   pub port-there : (p : NetPort) → Has net.connections p → p.element < length es
   port-there p i = let inside = has-within (length net.shapes) net.connections p h.lawful.within i in omega (arith, inside, h.count)
 
-  -- what a port is joined to is a port of an element that is there
+  -- an output is connected to an existing input, and an input to an existing output
   pub target-there : (at o : ℕ) → o < (get_or es at blank).outputs
       → (far : ConnectionEnd) × ((wiring_of net).target at o ≡ Some far) × (far.element < length es) × (far.port < (get_or es far.element blank).inputs)
   target-there at o i =

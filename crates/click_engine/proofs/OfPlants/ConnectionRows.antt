@@ -1,4 +1,4 @@
--- Rows that connections are noted in.
+-- Lemmas about the rows in which connections are entered.
 use Rattle.std.proofs.Common.{◌≡◌, ◌≢◌, ◌⊎◌, inl, inr, ℕ, zero, suc, ◌<◌, refl, sym, ap, subst, ◌∙◌, arith, All, List, [], ◌∷◌, ◌++◌, set, get_or, length, map, replicate, Bool, true, false, Option, Some, None}
 use Rattle.std.specs.Prelude.{nat_eq, ◌&&◌, if◌then◌else◌}
 use Rattle.std.proofs.lemmas.Bool.Decides.{eqb_tells}
@@ -30,7 +30,7 @@ pub noted_row : (xs : List (List (Option ConnectionEnd))) (i p : ℕ) (row : Lis
     → (at n : ℕ) → get_or (get_or (set xs i row) at []) n None ≡ first_of (get_or (get_or xs at []) n None) (nat_eq i at && nat_eq p n) far
 noted_row xs i p row far l h at n = noted_row-by xs i p row far l h at n (eqb_tells i at)
 
--- a connection between elements that are there ends at them
+-- the ends of a connection between existing elements are existing elements
 pub end_within : (n : ℕ) (cs xs : List Connection) (i : ℕ) (d : Connection) (s : Side) (p : ConnectionEnd) → All (λ (c : Connection). (c.from < n) × (c.to < n)) cs
     → xs ≡ cs → i < length xs → p ≡ end_of s (get_or xs i d) → p.element < n
 end_within n cs xs i d Output p all h l is =
@@ -38,7 +38,7 @@ end_within n cs xs i d Output p all h l is =
 end_within n cs xs i d Input p all h l is =
     rw is (All-get_or (λ (c : Connection). (c.from < n) × (c.to < n)) xs i d l (subst (λ ys. All (λ (c : Connection). (c.from < n) × (c.to < n)) ys) (sym h) all)).1
 
--- one connection more
+-- one more connection
 joined-last : (near far : Side) (b : Bool) (c d : Connection) (o r : Option ConnectionEnd) (e : Bool) (q : ConnectionEnd) → o ≡ first_of r e q
     → (if b then Some (end_of far d) else o) ≡ first_of (if b then Some (end_of far d) else r) e q
 joined-last near far true c d o r e q h = refl
@@ -55,7 +55,7 @@ empty_entry (suc count) zero zero = refl
 empty_entry (suc count) zero (suc n) = refl
 empty_entry (suc count) (suc at) n = empty_entry count at n
 
--- the same over rows as they are kept
+-- an entry in the stored rows
 pub noted_rows : (rows : List PortRow) (near far : ConnectionEnd) (old new : PortRow) → near.element < length rows
     → old ≡ get_or rows near.element old → ((n : ℕ) → get_or (ends_of new) n None ≡ first_of (get_or (ends_of old) n None) (nat_eq near.port n) far)
     → IsNoted (rows_of rows) (rows_of (set rows near.element new)) near far
@@ -73,7 +73,7 @@ first_at (row ∷ rows) (suc at) = first_at rows at
 pub firsts_are : (rows : List (List (Option ConnectionEnd))) (f : ℕ → ℕ → Option ConnectionEnd) (ports : List ConnectionEnd) → IsTable rows f → ports ≡ map first_far rows → AreFirst ports f
 firsts_are rows f ports table is at = rw is (first_at rows at ∙ ap far_of (table at 0))
 
--- the same, where elements and ports stand apart
+-- the first port of each row, with elements and ports in two lists
 apart_at : (rows : List (List (Option ConnectionEnd))) (at : ℕ) → end_apart (map element_of (map first_far rows)) (map port_of (map first_far rows)) at ≡ far_of (entry rows at 0)
 apart_at [] at = refl
 apart_at (row ∷ rows) zero = refl

@@ -1,4 +1,4 @@
--- Elements take over one after the other.
+-- Lemmas about elements that take over one after another.
 use Rattle.std.proofs.Common.{◌≡◌, ℕ, zero, suc, ◌<◌, ◌≤◌, List, [], ◌∷◌, ◌++◌, Bool, true, false, not, eqb, eqb-true, length, take, drop, get_or, position, slice_get, slice_set, Option, Some, None, refl, sym, ap, ◌∙◌, arith}
 use Rattle.std.specs.Prelude.{slice_index_or, option_and_then}
 use Rattle.std.specs.Option.{option_eq}
@@ -16,12 +16,12 @@ use Rattle.click_engine.specs.Plant.{Plant}
 use Rattle.click_engine.specs.TakeOver.{named, with_taken_over, each_taken}
 use Rattle.click_engine.specs.RunState.{blank}
 
--- where no element is left, nothing takes over
+-- if no element is left, nothing is taken over
 none_taken : (old : Plant) (names : List (List ℕ)) → each_taken old names [] ≡ []
 none_taken old [] = refl
 none_taken old (n ∷ ns) = refl
 
--- elements of which those from a place on have taken over
+-- the elements, of which those from an index on have taken over
 abbrev pub taken_from : Plant → List (List ℕ) → List Element → ℕ → List Element
 taken_from old names es at = take at es ++ each_taken old (drop at names) (drop at es)
 
@@ -36,7 +36,7 @@ next_taken old (n ∷ ns) [] (suc at) inside =
 next_taken old (n ∷ ns) (e ∷ es) zero inside = refl
 next_taken old (n ∷ ns) (e ∷ es) (suc at) inside = ap (λ r. e ∷ r) (next_taken old ns es at (omega (arith, inside)))
 
--- the same over an old plant in which what the name finds is as it was
+-- one more element takes over, if its name finds in the old plant what it found at first
 pub taken_next : (old now : Plant) (names : List (List ℕ)) (es : List Element) (from at : ℕ) → from ≡ suc at → at < length names
     → named now (slice_index_or names at []) ≡ named old (slice_index_or names at [])
     → slice_set (taken_from old names es from) at (with_taken_over (slice_index_or (taken_from old names es from) at blank) (named now (slice_index_or names at [])))
@@ -46,7 +46,7 @@ taken_next old now names es from at is inside same =
     ∙ ap (λ k. slice_set (taken_from old names es k) at (with_taken_over (slice_index_or (taken_from old names es k) at blank) (named old (slice_index_or names at [])))) is
     ∙ next_taken old names es at inside
 
--- an element of another name is found as before
+-- a change of one element leaves the elements with other names unchanged
 set-elsewhere : (es : List Element) (i k : ℕ) (e : Element) → (k ≡ i → ⊥) → slice_get (slice_set es i e) k ≡ slice_get es k
 set-elsewhere [] i k e h = refl
 set-elsewhere (x ∷ es) zero zero e h = absurd (h refl)
@@ -65,22 +65,22 @@ finds_others names es place e name other h apart = go (position (bytes_eq other)
         let its : name ≡ get_or names place [] = (bytes_eq-Decides name (get_or names place [])).0 (position-Some (bytes_eq name) names place [] h).1 in
         apart (mine ∙ ap (λ i. get_or names i []) same ∙ sym its)
 
--- the name at the first place that has it is at none before
+-- no index before the first one with a name has that name
 pub stands_first : (names : List (List ℕ)) (name : List ℕ) (at j : ℕ) → position (bytes_eq name) names ≡ Some at → j < at → slice_index_or names j [] ≡ name → ⊥
 stands_first names name at j h before same =
     false≢true (sym ((position-Some (bytes_eq name) names at [] h).2 j before) ∙ (bytes_eq-Decides name (slice_index_or names j [])).1 (sym same))
 
--- an element that holds what it held is as it was
+-- writing an element back changes nothing
 pub set-back : (es : List Element) (place : ℕ) (b e : Element) → e ≡ b → b ≡ get_or es place b → slice_set es place e ≡ es
 set-back es place b e same here = ap (λ x. slice_set es place x) (same ∙ here) ∙ set-get_or es place b
 
--- past the end nothing is written
+-- writing past the end changes nothing
 pub set-past : (es : List Element) (at : ℕ) (e : Element) → length es ≤ at → slice_set es at e ≡ es
 set-past [] at e h = refl
 set-past (x ∷ es) zero e h = absurd (omega (arith, h))
 set-past (x ∷ es) (suc at) e h = ap (λ r. x ∷ r) (set-past es at e (omega (arith, h)))
 
--- that a place is not the first one is what was asked
+-- the index is the one that was found, if the test for another one is false
 pub is_first : (o : Option ℕ) (at : ℕ) → not (option_eq eqb o (Some at)) ≡ false → o ≡ Some at
 is_first None at h = absurd (false≢true (sym h))
 is_first (Some p) at h = ap Some (eqb-true p at (turned (eqb p at) h))
@@ -89,7 +89,8 @@ is_first (Some p) at h = ap Some (eqb-true p at (turned (eqb p at) h))
     turned true k = refl
     turned false k = sym k
 
--- where the old element was there as before, or no earlier place has its name, those before it find what they did
+-- The elements before an index still find what they found. Either the old element at the place is
+-- unchanged, or no earlier index has its name.
 pub finds_before : (names : List (List ℕ)) (at : ℕ) (old_names : List (List ℕ)) (es : List Element) (place : ℕ) (b e : Element) (name : List ℕ) (o : Option ℕ)
     → o ≡ position (bytes_eq name) names → Some place ≡ position (bytes_eq name) old_names → b ≡ get_or es place b
     → (not (option_eq eqb o (Some at)) ≡ true → e ≡ b) → (j : ℕ) → j < at
@@ -105,7 +106,7 @@ finds_before names at old_names es place b e name o is found here kept j before 
     go true k = ap (λ l. option_and_then (slice_get l) (position (bytes_eq n) old_names)) (set-back es place b e (kept k) here)
     go false k = finds_others old_names es place e name n (sym found) (stands_first names name at j (sym is ∙ is_first o at k) before)
 
--- each by its name
+-- each element takes over from the old element with its name
 pub each_by_name : (old : Plant) (names : List (List ℕ)) (es : List Element) (at : ℕ) (name : List ℕ) (e : Element) → slice_get names at ≡ Some name → slice_get es at ≡ Some e
     → slice_get (each_taken old names es) at ≡ Some (with_taken_over e (named old name))
 each_by_name old [] es at name e h k = absurd (let x = h in cc)

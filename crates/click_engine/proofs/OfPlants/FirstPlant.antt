@@ -1,4 +1,4 @@
--- The plant that a net and first states begin.
+-- Lemmas about the plant that begins with a net and first states.
 use Rattle.std.proofs.Common.{◌≡◌, ◌≢◌, ◌⊎◌, inl, inr, ℕ, ◌+◌, refl, sym, ap, ◌∙◌, List, [], ◌∷◌, Bool, true, false, cond, position, Option, Some}
 use Rattle.std.specs.List.{position_from}
 use Rattle.std.specs.Str.{bytes_eq}
@@ -39,7 +39,7 @@ one_beginning net states v w h k =
     rw (net_is, tasks, sources, sinks, elements, overruns) refl in
     same
 
--- the place of a device that is not left out
+-- a device that is not left out is found at the same index
 found-without : (m n : List ℕ) (ds : List Device) → n ≢ m → element_with (without m ds) n ≡ element_with ds n
 found-without m n [] h = refl
 found-without m n (d ∷ ds) h = go (bytes_tell m d.name) (bytes_tell n d.name) (found-without m n ds h)
@@ -56,7 +56,7 @@ abbrev is_at : PacketDirection → List ℕ → State → Bool
 is_at direction.In n s = is_source n s
 is_at direction.Out n s = is_sink n s
 
--- what an element's device says of one that is asked for
+-- a search for a device finds the device in front if the names are equal, and goes on if not
 told : (n m : List ℕ) (at : ℕ) (ds : List Device) (o : Option ℕ) → element_with ds n ≡ o
     → element_with (record { name = m; element = at } ∷ without m ds) n ≡ cond (bytes_eq m n) (Some at) o
 told n m at ds o h = go (bytes_tell n m) (bytes_tell m n)

@@ -1,4 +1,4 @@
--- The elements of a net with their states.
+-- Lemmas about the elements of a net with their states.
 use Rattle.std.proofs.Common.{◌≡◌, ℕ, suc, ◌+◌, refl, sym, ap, ◌∙◌, arith, List, [], ◌∷◌, ◌++◌, length, add-zero}
 use Rattle.click_classes.specs.declared.state.State.{State}
 use Rattle.click_ports.specs.Net.{Net}

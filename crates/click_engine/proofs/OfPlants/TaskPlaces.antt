@@ -1,4 +1,4 @@
--- The places of the elements with a task, one element more at a time.
+-- Lemmas about the indices of the elements with a task, one more element at a time.
 use Rattle.std.proofs.Common.{◌≡◌, ◌∙◌, ℕ, ◌+◌, ◌<◌, sym, ap, subst, arith, Some, List, [], ◌∷◌, ◌++◌, take, get_or, length, length-take-le}
 use Rattle.std.proofs.lemmas.List.{take_more, map-append}
 use Rattle.std.proofs.lemmas.Option.{slice_get-get_or}
@@ -41,11 +41,11 @@ module _ (net : Net) (at : ℕ) (ss xs : List Shape) (d : Shape) (places : List 
   pub next_idle : (HasTask net at (get_or xs at d).class → ⊥) → AreTasks net 0 (take at ss) places → AreTasks net 0 (take (at + 1) ss) places
   next_idle h r = subst (λ ys. AreTasks net 0 ys places) (sym next) (idle_more net 0 (take at ss) places (get_or xs at d) at place h r)
 
--- a task more is its place more
+-- one more task adds its index
 pub places-push : (tasks : List Task) (t : Task) → places_of (tasks ++ t ∷ []) ≡ places_of tasks ++ t.at ∷ []
 places-push tasks t = map-append (λ (u : Task). u.at) tasks (t ∷ [])
 
--- the task of an element is of its class
+-- the task of an element is of the element's class
 pub is_task_in : (ss xs : List Shape) (at : ℕ) (d : Shape) (k : TaskKind) → xs ≡ ss → at < length xs → class_of_task k ≡ (get_or xs at d).class → IsTaskIn ss (record { at = at; kind = k })
 is_task_in ss xs at d k same inside is =
     subst (λ ys. IsTaskIn ys (record { at = at; kind = k })) same (ap (λ o. option_map (λ (s : Shape). s.class) o) (slice_get-get_or xs at d inside) ∙ ap Some (sym is))

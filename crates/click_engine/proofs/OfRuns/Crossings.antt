@@ -1,4 +1,4 @@
--- What a push or a pull over one connection tells.
+-- Lemmas about the result of a push or a pull over one connection.
 use Rattle.std.proofs.Common.{◌≡◌, ◌≢◌, ◌⊎◌, ℕ, zero, suc, inl, ◌+◌, ◌-◌, ◌*◌, ◌^◌, ◌<◌, inr, length, refl, sym, ap, ◌∙◌, Option, Some, None, Bool, true, false, if◌then◌else◌, MatchOption, arith}
 use Rattle.click_packet.specs.Packet.{Packet}
 use Rattle.click_classes.specs.Acts.{stored, Stored}
@@ -55,7 +55,7 @@ module _ (net : Wiring) (w v : RunState) (at o : ℕ) where
         few = omega arith;
       }
 
-  -- where the output is joined to nothing, the element past all of them does nothing
+  -- an output without a connection leads past all elements, where nothing is done
   pub pushed_on : (p q : Packet) (far : ConnectionEnd) (w1 : RunState) (to : PortRange) → 0 < w.left → far ≡ far_of (net.target at o) → length w.elements < 2 ^ 64
       → w1 ≡ spent w → Acts w1 v far.element far.port p q to → to.count < 65536 → Pushed net w v at o p far.element to.first to.count q
   pushed_on p q far w1 to h is short e acts few = go (net.target at o) refl
@@ -120,7 +120,7 @@ module _ (net : Wiring) (w v : RunState) (at o : ℕ) where
           alone = λ k. held;
         }
 
-  -- what the far output leads to
+  -- the result of a pull at the output that the connection names
   pub reached_far : (p : Packet) (r : PullResult) (far : ConnectionEnd) (w1 : RunState) → 0 < w.left → net.source at o ≡ Some far → w1 ≡ spent w → ReachesIn w1 v far p r → r.count < 65536 → Reached net w v at o p r
   reached_far p r far w1 h t e reach few = go (stored (element_at w1 far.element).state) refl
     where
@@ -134,7 +134,7 @@ module _ (net : Wiring) (w v : RunState) (at o : ℕ) where
           reached_asks p r far w1 h t e (tries_at w1 far.element far.port) (omega (arith, count_is, few)) (rw is (refl, run_state)) quiet at_is
           (inputs_are ∙ ap (λ (u : RunState). (element_at u far.element).inputs) (sym run_state)) (ap (λ (u : RunState). tries_at u far.element far.port) (sym run_state)) count_is first_is
 
-  -- where the input is joined to nothing, the element past all of them has nothing to give
+  -- an input without a connection leads past all elements, where nothing is stored
   pub reached_on : (p : Packet) (r : PullResult) (far : ConnectionEnd) (w1 : RunState) → 0 < w.left → far ≡ far_of (net.source at o) → length w.elements < 2 ^ 64 → w1 ≡ spent w → ReachesIn w1 v far p r → r.count < 65536
       → Reached net w v at o p r
   reached_on p r far w1 h is short e reach few = go (net.source at o) refl
@@ -148,13 +148,13 @@ module _ (net : Wiring) (w v : RunState) (at o : ℕ) where
           let (quiet, run_state, at_is, inputs_are, count_is, first_is) = rw (gone, stored-blank) at reach.reached in
           reached_unconnected p r h t (run_state ∙ e) quiet (count_is ∙ ap (λ (x : PortRange). x.count) (sym (tries-blank 0 far.port)))
 
--- what an element gave out of itself changes no crossings
+-- taking a stored packet out of an element spends no crossing
 pub stored-left : (o : Option Stored) (at : ℕ) (w v : RunState) (p : Packet) (held : Bool)
     → MatchOption o ((held ≡ false) × (v ≡ w)) (λ s. (held ≡ true) × (s.packet ≡ p) × (v ≡ with_state w at s.state)) → v.left ≡ w.left
 stored-left None at w v p held h = ap (λ (u : RunState). u.left) h.1
 stored-left (Some s) at w v p held h = ap (λ (u : RunState). u.left) h.2
 
--- a packet that was pushed on is pushed on by one step more
+-- a packet that was pushed on is pushed on by one more step
 pub along_next : (net : Wiring) (w v u : RunState) (at first count : ℕ) (p : Packet) (far next : ℕ) (q : Packet) (to output still : ℕ) (r : Packet)
     → Along net w v at first count p far next 1 q → Pushed net v u far next q to output still r → Along net w u at first count p to output still r
 along_next net w v u at first count p far next q to output zero r over step = record {
@@ -176,7 +176,7 @@ pub along_one : (net : Wiring) (w v u : RunState) (at first count : ℕ) (p : Pa
     → Along net w v at first count p far next 1 q → Pushed net v u far next q to output still r → still ≡ 1 → Along net w u at first count p to output 1 r
 along_one net w v u at first count p far next q to output still r over step one = rw one at (along_next net w v u at first count p far next q to output still r over step)
 
--- where no output is left, the element that had the packet last is of no account
+-- if no output is left, it does not matter which element had the packet last
 pub along_over : (net : Wiring) (w v : RunState) (at first count : ℕ) (p : Packet) (far next still : ℕ) (q : Packet) (far' next' : ℕ) → Along net w v at first count p far next still q → still ≡ 0
     → Along net w v at first count p far' next' 0 q
 along_over net w v at first count p far next still q far' next' over none = record {
@@ -191,7 +191,7 @@ pub pushed_along : (net : Wiring) (w v : RunState) (at o : ℕ) (p : Packet) (fa
 pushed_along net w v at o p far first still q step =
     along_next net w w v at o 1 p at o p far first still q (record { made = refl; fewer = omega arith; falls = omega arith; more = λ h e. absurd (omega arith) }) step
 
--- some steps, and then some more
+-- two sequences of steps, one after the other, are a sequence of steps
 pub along_on : (net : Wiring) (w v u : RunState) (at first : ℕ) (p : Packet) (far next still : ℕ) (q : Packet) (to output more : ℕ) (r : Packet)
     → Along net w v at first 1 p far next still q → Along net v u far next still q to output more r → (still ≡ 0 → more ≡ 0) → Along net w u at first 1 p to output more r
 along_on net w v u at first p far next still q to output more r over later none = record {
@@ -206,7 +206,7 @@ along_on net w v u at first p far next still q to output more r over later none 
     go (suc zero) e h = omega (arith, later.more h e, over.fewer)
     go (suc (suc n)) e h = omega (arith, later.falls, over.more (omega (arith, e)) refl)
 
--- a packet that was pushed on finds no crossing left
+-- a packet that was pushed on is dropped because no crossing is left
 pub along_lost : (net : Wiring) (w v u : RunState) (at first count : ℕ) (p : Packet) (far next : ℕ) (q : Packet) (to output : ℕ) → Along net w v at first count p far next 1 q
     → v.left ≡ 0 → u ≡ overrun v → Along net w u at first count p to output 0 q
 along_lost net w v u at first count p far next q to output over none lost =

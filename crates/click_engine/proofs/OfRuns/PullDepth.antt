@@ -1,4 +1,4 @@
--- The same of a pull: it leaves no more crossings, and a depth of at least the crossings left never comes into play.
+-- A pull never adds crossings, and a depth of at least the crossings left changes nothing.
 use Rattle.std.proofs.Common.{◌≡◌, ℕ, zero, suc, ◌<◌, ◌≤◌, inl, inr, refl, sym, ap, ◌∙◌, Option, Some, None, arith}
 use Rattle.std.proofs.lemmas.Bool.{cases_lt}
 use Rattle.click_packet.specs.Packet.{Packet}

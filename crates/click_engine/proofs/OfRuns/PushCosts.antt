@@ -1,4 +1,4 @@
--- A push that has as many crossings left as it costs has no overrun.
+-- A push with at least as many crossings left as its cost has no overrun.
 use Rattle.std.proofs.Common.{◌≡◌, ℕ, zero, suc, ◌+◌, ◌<◌, ◌≤◌, refl, ap, ◌∙◌, List, get_or, Option, Some, None, arith}
 use Rattle.click_packet.specs.Packet.{Packet}
 use Rattle.click_engine.specs.declared.run_state.Element.{Element}
@@ -14,7 +14,7 @@ use Rattle.click_engine.proofs.OfInvariants.RunRelations.{Kept, kept-same, kept-
 use Rattle.click_engine.proofs.OfRuns.PushDepth.{push-left}
 use Rattle.click_engine.proofs.OfRuns.RunSteps.{push-unconnected, push-some}
 
--- no overrun came, and no more than n crossings went
+-- there was no overrun, and at most n crossings were spent
 pub record Spends (w v : RunState) (n : ℕ) : Type 0 where
   pub overruns : v.overruns ≡ w.overruns
   pub left : w.left ≤ v.left + n
@@ -74,7 +74,7 @@ module _ (net : Wiring) (cost : ℕ → ℕ) where
             rw (push-some net w at o (suc d) d p far refl some e)
             (record { overruns = rest.overruns; left = omega (arith, rest.left, bound, whole_cost, some) })
 
--- a packet that enters has no overrun where the plant is within its cost
+-- a packet that enters has no overrun if its cost is at most the crossings of a packet run
 pub arrive-cost : (cost : ℕ → ℕ) (v : Plant) → IsCost (wiring v) cost v.elements → (device : List ℕ) (p : Packet)
     → ((at : ℕ) → source_of v device ≡ Some at → crossing_cost (wiring v) cost at 0 ≤ most_crossings) → (arrive v device p).overruns ≡ v.overruns
 arrive-cost cost v is device p h = go (source_of v device) refl

@@ -1,4 +1,4 @@
--- A depth of at least the crossings left never comes into play.
+-- For a push, a depth of at least the crossings left changes nothing.
 use Rattle.std.proofs.Common.{◌≡◌, ℕ, zero, suc, ◌+◌, ◌<◌, ◌≤◌, inl, inr, refl, sym, ap, ◌∙◌, Option, Some, None, arith}
 use Rattle.std.proofs.lemmas.Bool.{cases_lt}
 use Rattle.click_packet.specs.Packet.{Packet}
@@ -7,7 +7,7 @@ use Rattle.click_engine.specs.RunState.{Wiring, RunState, with_state, acted_at, 
 use Rattle.click_engine.specs.Run.{push, spread, sent}
 use Rattle.click_engine.proofs.OfRuns.RunSteps.{push-none, push-unconnected, push-some}
 
--- outputs served in turn leave no more crossings than each of them does
+-- pushes at several outputs never add crossings if none of them does
 spread-left : (f : RunState → ℕ → RunState) → ((v : RunState) (o : ℕ) → (f v o).left ≤ v.left) → (count first : ℕ) (w : RunState) → (spread f count first w).left ≤ w.left
 spread-left f h zero first w = omega arith
 spread-left f h (suc n) first w = omega (arith, spread-left f h n (first + 1) (f w first), h w first)
@@ -28,7 +28,8 @@ module _ (net : Wiring) where
           let fewer = spread-left (λ v x. push net d v far.element x a.packet) (λ v x. ih v far.element x a.packet) a.outputs.count a.outputs.first to in
           rw (push-some net w at o (suc d) d p far refl some e) (omega (arith, fewer))
 
-  -- two depths that agree on each output agree on all of them, as long as both reach as far as the crossings left
+  -- two depths of at least the crossings left agree on several outputs if they agree on each of
+  -- them
   spread-slack : (c d at : ℕ) (p : Packet) → ((v : RunState) (o : ℕ) → v.left ≤ c → v.left ≤ d → push net c v at o p ≡ push net d v at o p)
       → (count first : ℕ) (w : RunState) → w.left ≤ c → w.left ≤ d → sent net c at p count first w ≡ sent net d at p count first w
   spread-slack c d at p ih zero first w h k = refl

@@ -1,4 +1,4 @@
--- One task of a round.
+-- Lemmas about one task of a round.
 use Rattle.std.proofs.Common.{◌≡◌, ℕ, zero, suc, List, [], ◌∷◌, length, drop, get_or, ◌<◌, ◌+◌, ◌≤◌, min, refl, ap, sym, ◌∙◌, Bool, true, false, Option, None, Some, MatchOption, arith}
 use Rattle.std.proofs.Math.Seq.{drop-cons}
 use Rattle.std.proofs.lemmas.Bool.{false≢true}
@@ -35,7 +35,7 @@ worked_by v at r = elim r.packet [
   | Some p ↦ record { plant = end v (push (wiring v) most_crossings r.run_state at 0 p); packets = 1 }
 ]
 
--- a burst of m packets after the next one
+-- the next packet of a source and a burst of m packets after it
 abbrev pub burst_by : ℕ → ℕ → Plant → Option Stored → RoundResult
 burst_by m at v o = elim o [
   | None ↦ idle v
@@ -58,7 +58,7 @@ given_none : (m at : ℕ) (v u : Plant) (b : Bool) (o : Option Stored) → Emitt
 given_none m at v u b None f gave = rw f.1 refl
 given_none m at v u b (Some e) f gave = absurd (false≢true (sym gave ∙ f.0))
 
--- a source gave one packet more, or none
+-- a source emitted one more packet, or none
 pub burst_more : (n m at : ℕ) (v u : Plant) (b : Bool) → n ≡ suc m → Emitted at v u b (emission (state_at v at)) → b ≡ true
     → bursts n at v ≡ record { plant = (bursts m at u).plant; packets = 1 + (bursts m at u).packets }
 burst_more n m at v u b h made gave = burst-next n m at v h ∙ given_one m at v u b (emission (state_at v at)) made gave
@@ -70,14 +70,14 @@ pub bursts-zero : (n at : ℕ) (v : Plant) → n ≡ 0 → bursts n at v ≡ idl
 unfolding bursts
 bursts-zero n at v e = rw e refl
 
--- a sum that stops at its top stops there in any order
+-- a sum that is cut off at a bound is the same in any order of adding
 pub topped : (a b top : ℕ) → min (min a top + b) top ≡ min (a + b) top
 topped a b top = grind (arith, nat_tests)
 
 pub topped_all : (a b top : ℕ) → a ≤ top → {n : ℕ} → b ≡ 0 → min (a + b) top ≡ n → a ≡ n
 topped_all a b top l e h = grind (arith, nat_tests)
 
--- a task leaves the list of tasks as it was
+-- a task does not change the list of tasks
 burst-keeps : (n at : ℕ) (v : Plant) → (bursts n at v).plant.tasks ≡ v.tasks
 unfolding bursts
 burst-keeps zero at v = refl
@@ -115,14 +115,14 @@ task-keeps v at = go (slice_get v.net.shapes at)
 pub drop_next : (xs : List ℕ) (i d : ℕ) → i < length xs → drop i xs ≡ get_or xs i d ∷ drop (i + 1) xs
 drop_next xs i d h = let e : suc i ≡ i + 1 = omega arith in drop-cons xs i d h ∙ ap (λ j. get_or xs i d ∷ drop j xs) e
 
--- the place of a task in the list
+-- the index of the element of a task in the list
 pub place-at : (ts : List Task) (i : ℕ) (t : Task) → i < length ts → t ≡ get_or ts i t → t.at ≡ get_or (places_of ts) i t.at
 place-at ts i t inside is = ap (λ (u : Task). u.at) is ∙ sym (get_or-map (λ (u : Task). u.at) ts i t t.at inside)
 
 some_same : (a b : Class) → Some a ≡ Some b → a ≡ b
 some_same a b e = ap (λ (o : Option Class). elim o [ None ↦ a | Some c ↦ c ]) e
 
--- the class of an element says what its task is
+-- the class of an element determines its task
 pub task-by_class : (v : Plant) (t : Task) → IsTaskIn v.net.shapes t → task v t.at ≡ task_of (class_of_task t.kind) v t.at
 task-by_class v t is = go (slice_get v.net.shapes t.at) is
   where

@@ -1,4 +1,4 @@
--- No run comes to a port without a connection.
+-- No packet run reaches a port without a connection.
 use Rattle.std.proofs.Common.{◌≡◌, ℕ, zero, suc, ◌+◌, ◌<◌, ◌≤◌, inl, inr, refl, sym, ap, ◌∙◌, length, Option, Some, None, arith}
 use Rattle.std.proofs.lemmas.Bool.{cases_lt}
 use Rattle.std.proofs.lemmas.Bool.Decides.{nat_tests}
@@ -23,7 +23,7 @@ after-within : (ports port : ℕ) → port < ports → after ports port < ports
 after-within ports port h = grind (arith, nat_tests)
 
 module _ (net : Net) (other : Wiring) (more : JoinsToo (wiring_of net) other) where
-  -- an element at the far end fits its ports
+  -- an element with an index in the net fits its ports
   fits-at : (w : RunState) (at : ℕ) → AreInOrder net w.elements → at < length w.elements → Fits (element_at w at)
   fits-at w at h inside = All-get_or Fits w.elements at blank inside h.fitting
 

@@ -1,4 +1,5 @@
--- Where runs begin, and that any depth of at least the crossings makes them.
+-- Lemmas about the ports at which packet runs begin, and about the depth: any depth of at least the
+-- crossings gives the same packet runs.
 use Rattle.std.proofs.Common.{◌≡◌, ℕ, zero, suc, ◌<◌, ◌≤◌, inl, inr, sym, ap, ◌∙◌, List, [], ◌∷◌, length, get_or, slice_get, option_map, Some, arith}
 use Rattle.std.proofs.lemmas.Bool.{cases_lt}
 use Rattle.std.proofs.lemmas.List.{get_or_past}
@@ -22,7 +23,7 @@ use Rattle.click_engine.proofs.OfInvariants.PortFit.{Fits}
 use Rattle.click_engine.proofs.OfRuns.PullDepth.{pull-left, pull-slack}
 use Rattle.click_engine.proofs.OfRuns.PushDepth.{push-slack}
 
--- ---- the ports that a class has
+-- ---- the ports of a class
 
 device-output : (s : State) → class s ≡ kind.FromDevice → (counts s).outputs.0 ≡ 1
 device-output (state.FromDevice d) e = cc
@@ -44,7 +45,7 @@ discard-input : (s : State) → class s ≡ kind.Discard → (counts s).inputs.0
 discard-input state.Discard e = cc
 discard-input _ e = cc
 
--- ---- where a run begins
+-- ---- the ports at which packet runs begin
 
 module _ (v : Plant) (h : IsInOrder v) where
   abbrev here : ℕ → Element

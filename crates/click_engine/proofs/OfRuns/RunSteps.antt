@@ -1,4 +1,4 @@
--- One step of a push or a pull.
+-- Lemmas about one step of a push or a pull.
 use Rattle.std.proofs.Common.{◌≡◌, ℕ, zero, suc, ◌+◌, ◌<◌, ◌⊎◌, inl, inr, refl, sym, ap, ◌∙◌, Option, Some, None, ◌==◌, Bool, true, false, MatchOption, arith}
 use Rattle.click_packet.specs.Packet.{Packet}
 use Rattle.click_classes.specs.Acts.{after}
@@ -61,7 +61,7 @@ pub spread-zero : (f : RunState → ℕ → RunState) (n first : ℕ) (w : RunSt
 spread-zero f n first w e = rw e refl
 
 module _ (net : Wiring) (w : RunState) (at port : ℕ) where
-  -- a push that spent a crossing, acted at the far element and went on
+  -- a push that spent a crossing, did what the far element does, and went on at its outputs
   pub push-made : (depth d : ℕ) (p q : Packet) (far : ConnectionEnd) (w1 w2 w3 : RunState) (to : PortRange) → depth ≡ suc d → 0 < w.left → net.target at port ≡ Some far
       → w1 ≡ spent w → Acts w1 w2 far.element far.port p q to → w3 ≡ sent net d far.element q to.count to.first w2 → w3 ≡ push net depth w at port p
   push-made depth d p q far w1 w2 w3 to e l f s acts on =
@@ -83,20 +83,20 @@ module _ (pull_at : RunState → ℕ → Pulled) (give_at : RunState → ℕ →
   ask-some n m input w p e f = rw (e, ask, f) refl
 
 module _ (net : Wiring) (depth at ins : ℕ) where
-  -- an input had nothing, and the next is asked in the run state that it left
+  -- an input had no packet, and the next one is asked in the run state that it left
   pub asked_next : (n m input : ℕ) (w v : RunState) (p : Packet) → n ≡ suc m → Answers (pull net depth w at input) v false p
       → asked net depth at ins n input w ≡ asked net depth at ins m (after ins input) v
   asked_next n m input w v p e a =
       ask-none (λ u i. pull net depth u at i) (λ u i q. given net depth at u i q) ins n m input w e a.answer
       ∙ ap (λ u. asked net depth at ins m (after ins input) u) (sym a.run_state)
 
-  -- an input gave a packet, and what becomes of it is the answer
+  -- an input had a packet, and the result of passing it on is the answer
   pub asked_last : (n m input : ℕ) (w v u : RunState) (p q : Packet) (got : Bool) → n ≡ suc m → Answers (pull net depth w at input) v true p
       → Answers (given net depth at v input p) u got q → Answers (asked net depth at ins n input w) u got q
   asked_last n m input w v u p q got e a b =
       rw (ask-some (λ x i. pull net depth x at i) (λ x i r. given net depth at x i r) ins n m input w p e a.answer, ← a.run_state) b
 
--- what a pull at the element itself gave, by its yes or no
+-- the result of a pull from an element's own store, by whether it had a packet
 pub stored-yes : (o : Option Stored) (at : ℕ) (w v : RunState) (p : Packet)
     → MatchOption o ((true ≡ false) × (v ≡ w)) (λ s. (true ≡ true) × (s.packet ≡ p) × (v ≡ with_state w at s.state))
     → (s : Stored) × (o ≡ Some s) × (s.packet ≡ p) × (v ≡ with_state w at s.state)
@@ -126,7 +126,7 @@ module _ (net : Wiring) (w : RunState) (at port depth d : ℕ) (far : Connection
       let found = stored-no _ far.element (spent w) v p (rw e at h) in
       rw (pull-asks net w at port depth d far deep left linked found.0) (rw found.1 at a)
 
--- the loop's answer, by what the element had at its begin
+-- the inputs that the element names are asked, with the element taken from the run state
 pub asked_from : (net : Wiring) (depth at output ins : ℕ) (t : PortRange) (w u : RunState) (r : Pulled) (got : Bool) (q : Packet) → ins ≡ (element_at w at).inputs → t ≡ tries_at w at output
     → r ≡ asked net depth at ins t.count t.first w → Answers r u got q
     → Answers (asked net depth at (element_at w at).inputs (tries_at w at output).count (tries_at w at output).first w) u got q

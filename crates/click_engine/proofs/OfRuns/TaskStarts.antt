@@ -1,4 +1,4 @@
--- The packet that a task begins with, and what is left of the task after it.
+-- Lemmas about the first packet of a task, and about the rest of the task after it.
 use Rattle.std.proofs.Common.{◌≡◌, ℕ, zero, suc, ◌<◌, ◌-◌, ◌+◌, refl, ap, sym, ◌∙◌, ◌↔◌, Bool, true, false, IsTrue, Option, None, Some, IfSome, IsSome, MatchOption, nat_lt, if◌then◌else◌, arith}
 use Rattle.std.proofs.lemmas.Bool.{false≢true}
 use Rattle.std.proofs.lemmas.Bool.Decides.{nat_tests}
@@ -13,14 +13,14 @@ use Rattle.click_engine.specs.Rounds.{RoundResult, task_of, idle, bursts, unqueu
 use Rattle.click_engine.specs.kept.Tasks.{TakesOne, task_apart}
 use Rattle.click_engine.proofs.OfRuns.RoundTasks.{burst-next, burst_by, bursts-zero, worked_by}
 
--- the first packet was pushed, and a source has so many left
+-- the first packet was pushed, and a source has m more to emit
 abbrev started : ℕ → Plant → ℕ → RoundResult
 started at v m = record { plant = (bursts m at v).plant; packets = 1 + (bursts m at v).packets }
 
 positive : (n : ℕ) → nat_lt 0 (suc n) ≡ true
 positive n = grind (arith, nat_tests)
 
--- what came of a source's try to give its first packet, of so many at most
+-- the outcome of emitting the first packet of a source, which emits `most` packets at most
 abbrev Tried : Plant → RunState → ℕ → ℕ → ℕ → Option Packet → Option Stored → Type 0
 Tried v w at most burst last o =
     MatchOption o ((most ≡ 0) × (w ≡ begin most_crossings v)) (λ e. (most ≡ burst) × (w ≡ with_state (begin most_crossings v) at e.state) × (last ≡ Some e.packet))
@@ -47,7 +47,7 @@ source_has : (burst at : ℕ) (v : Plant) (w : RunState) (most : ℕ) (last : Op
 source_has burst at v w most last None f some = absurd (omega (arith, f.0, some))
 source_has burst at v w most last (Some e) f some = rw f.2 refl
 
--- what a pull answered, and whether
+-- the result of a pull, and whether it was answered
 abbrev Pulls : Plant → RunState → ℕ → Bool → Option Packet → Type 0
 Pulls v w at taken last = (pull (wiring v) most_crossings (begin most_crossings v) at 0 ≡ record { run_state = w; packet = last }) × (IsTrue taken ↔ IsSome last)
 
@@ -63,14 +63,14 @@ unqueue_some v w u at taken (Some p) f some pushed = ap (worked_by v at) f.0 ∙
 abbrev Takes : Class → Plant → RunState → ℕ → Bool → Option Packet → Type 0
 Takes c v w at taken last = TakesOne (wiring v) (begin most_crossings v) w c at taken last
 
--- a task that gave no packet
+-- a task that yielded no packet
 pub took_none : (c : Class) (v : Plant) (w : RunState) (at : ℕ) (taken : Bool) (last : Option Packet) → Takes c v w at taken last → taken ≡ false → task_of c v at ≡ task_apart c (end v w) at
 took_none class.InfiniteSource v w at taken last f none = ap (λ x. bursts (burst_of (state_at (end v x) at)) at (end v x)) (sym (f.1 none))
 took_none class.Unqueue v w at taken last f none = unqueue_none v w at taken last f none
 took_none class.Discard v w at taken last f none = ap (λ x. discarded (end v x) at) (sym f.1)
 took_none c v w at taken last f none = ap (λ x. idle (end v x)) (sym f.1)
 
--- a task whose one packet was pushed
+-- a task whose single packet was pushed
 pub took_one : (c : Class) (v : Plant) (w u : RunState) (at : ℕ) (taken : Bool) (last : Option Packet) → Takes c v w at taken last → taken ≡ true → IsPushed v w u at last
     → task_of c v at ≡ record { plant = end v u; packets = 1 }
 took_one class.InfiniteSource v w u at taken last f some pushed =
@@ -79,7 +79,7 @@ took_one class.InfiniteSource v w u at taken last f some pushed =
 took_one class.Unqueue v w u at taken last f some pushed = unqueue_some v w u at taken last f some pushed
 took_one c v w u at taken last f some pushed = absurd (false≢true (sym f.0 ∙ some))
 
--- it is there to be pushed
+-- the task has a packet to push
 pub took_has : (c : Class) (v : Plant) (w : RunState) (at : ℕ) (taken : Bool) (last : Option Packet) → Takes c v w at taken last → taken ≡ true → IsSome last
 took_has class.InfiniteSource v w at taken last f some =
     let b = burst_of (state_at v at) in source_has b at v w 1 last (if nat_lt 0 b then emission (state_at v at) else None) (f.0 some) (omega arith)

@@ -10,7 +10,7 @@ use Rattle.click_engine.specs.RunState.{Wiring, RunState, element_at, with_state
 use Rattle.click_engine.specs.Run.{push, sent}
 use Rattle.click_engine.proofs.OfRuns.RunSteps.{push-some}
 
--- the state that an element has already changes nothing
+-- writing back the state that an element has changes nothing
 same_state : (w : RunState) (at : ℕ) (s : State) → (element_at w at).state ≡ s → with_state w at s ≡ w
 same_state w at s e =
     let same : record (element_at w at) { state = s } ≡ element_at w at = ap (λ (t : State). record (element_at w at) { state = t }) (sym e) in

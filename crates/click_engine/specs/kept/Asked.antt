@@ -1,4 +1,4 @@
--- Inputs that were asked one after the other.
+-- Inputs that were asked one after another.
 use Rattle.std.specs.Prelude.{◌≡◌, ℕ, ◌<◌, List, [], ◌∷◌, Some, None, if◌then◌else◌, nat_lt, false}
 use Rattle.click_packet.specs.Packet.{Packet}
 use Rattle.click_engine.specs.RunState.{Wiring, RunState}
@@ -6,18 +6,19 @@ use Rattle.click_engine.specs.Frames.{Frame, Asks, Follows}
 use Rattle.click_engine.specs.declared.input_scan.InputScan.{InputScan}
 use Rattle.click_engine.specs.declared.transfers.PullResult.{PullResult}
 
--- its numbers fit 16 bits
+-- the numbers of the scan fit in 16 bits
 abbrev pub IsSmall : InputScan → Type 0
 IsSmall a = (a.inputs < 65536) × (a.count < 65536) × (a.input < 65536) × (a.back < 65536)
 
 abbrev pub asks_now : InputScan → Frame
 asks_now a = Asks a.at a.inputs a.count a.input a.back
 
--- the frames, where the last input that was asked led to this reply
+-- the frames after the last input that was asked had this result
 abbrev pub frames_with : PullResult → InputScan → List Frame
 frames_with r a = if nat_lt 0 r.count then Asks r.at r.inputs r.count r.first 0 ∷ asks_now a ∷ [] else asks_now a ∷ []
 
--- the element s asked inputs and is t then, and r is the reply of the last of them, if one answered or leads further; else no input is left
+-- The scan s asked inputs and is t now, and r is the result of the last input. Either this input
+-- answered, or it leads to further inputs, or no input is left to ask.
 pub record Asked (net : Wiring) (w v : RunState) (s t : InputScan) (p : Packet) (r : PullResult) : Type 0 where
   pub follows : (room : ℕ) → w.left < room → Follows net w (record { frames = asks_now s ∷ []; last = None; room = room }) v
       (record { frames = frames_with r t; last = if r.held then Some p else None; room = room })

@@ -1,4 +1,4 @@
--- The tables of connections.
+-- The tables of connections and of devices.
 use Rattle.std.specs.Prelude.{◌≡◌, ℕ, ◌-◌, ◌^◌, List, [], ◌∷◌, map, position, slice_index_or, Option, Some, None, Bool, if◌then◌else◌}
 use Rattle.std.specs.declared.vec.Vec.{Vec}
 use Rattle.std.specs.declared.alloc.Global.{Global}
@@ -9,7 +9,7 @@ use Rattle.click_engine.specs.declared.adjacency.PortRow.{PortRow}
 use Rattle.click_engine.specs.declared.adjacency.PortRow.TheVariants.{First, Several}
 use Rattle.click_engine.specs.declared.run_state.ConnectionEnd.{ConnectionEnd}
 
--- what the ports of a row are joined to
+-- the other ends that a row has entered for its ports
 abbrev pub ends_of : PortRow → List (Option ConnectionEnd)
 ends_of (First end) = end ∷ []
 ends_of (Several ends) = ends.items
@@ -23,7 +23,7 @@ entry rows at number = slice_index_or (slice_index_or rows at []) number None
 abbrev pub IsTable : List (List (Option ConnectionEnd)) → (ℕ → ℕ → Option ConnectionEnd) → Type 0
 IsTable rows f = (at number : ℕ) → entry rows at number ≡ f at number
 
--- a port past all elements, which stands for none
+-- an end past all elements, which stands for no connection
 abbrev pub nowhere : ConnectionEnd
 nowhere = record { element = 2 ^ 64 - 1; port = 0 }
 
@@ -31,15 +31,15 @@ abbrev pub far_of : Option ConnectionEnd → ConnectionEnd
 far_of None = nowhere
 far_of (Some p) = p
 
--- what a row's first port is joined to
+-- the other end at the first port of a row
 abbrev pub first_far : List (Option ConnectionEnd) → ConnectionEnd
 first_far row = far_of (slice_index_or row 0 None)
 
--- what the first port of each element is joined to
+-- the list has the other end at the first port of each element
 abbrev pub AreFirst : List ConnectionEnd → (ℕ → ℕ → Option ConnectionEnd) → Type 0
 AreFirst ports f = (at : ℕ) → slice_index_or ports at nowhere ≡ far_of (f at 0)
 
--- the same, where elements and ports stand apart
+-- `AreFirst`, with the elements in one list and the ports in another
 abbrev pub element_of : ConnectionEnd → ℕ
 element_of p = p.element
 
@@ -52,25 +52,25 @@ end_apart places ports at = record { element = slice_index_or places at (2 ^ 64 
 abbrev pub AreFirstApart : List ℕ → List ℕ → (ℕ → ℕ → Option ConnectionEnd) → Type 0
 AreFirstApart places ports f = (at : ℕ) → end_apart places ports at ≡ far_of (f at 0)
 
--- what was noted, else the far port where it is its turn
+-- the entry if there is one, else `far` if this is the port
 abbrev pub first_of : Option ConnectionEnd → Bool → ConnectionEnd → Option ConnectionEnd
 first_of None here far = if here then Some far else None
 first_of (Some noted) here far = Some noted
 
--- the far port was noted at the near one, unless something was
+-- `far` was entered at the port `near`, unless an end was entered there already
 abbrev pub IsNoted : List (List (Option ConnectionEnd)) → List (List (Option ConnectionEnd)) → ConnectionEnd → ConnectionEnd → Type 0
 IsNoted old new near far = (at number : ℕ) → entry new at number ≡ first_of (entry old at number) (is_port near at number) far
 
--- names and places, side by side
+-- devices from a list of names and a list of indices
 abbrev pub devices : List (List ℕ) → List ℕ → List Device
 devices [] places = []
 devices (name ∷ names) [] = []
 devices (name ∷ names) (at ∷ places) = record { name = name; element = at } ∷ devices names places
 
--- the bytes of texts
+-- the bytes of the texts
 abbrev pub texts : List (Vec ℕ Global) → List (List ℕ)
 texts names = map (λ (name : Vec ℕ Global). name.items) names
 
--- the table finds the first of those with a name
+-- the table finds for each name the first element that has it
 abbrev pub FindsFirst : List Device → List (List ℕ) → Type 0
 FindsFirst table names = (name : List ℕ) → element_with table name ≡ position (bytes_eq name) names

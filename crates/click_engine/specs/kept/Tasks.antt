@@ -1,4 +1,4 @@
--- The tasks as a plant keeps them, and how they begin.
+-- The tasks as a plant stores them, and how they begin.
 use Rattle.std.specs.Prelude.{◌≡◌, ◌↔◌, ℕ, Bool, true, false, IsTrue, IsSome, List, map, slice_get, option_map, Option, None, Some, MatchOption, nat_lt, if◌then◌else◌}
 use Rattle.click_base.specs.declared.class.Class.{Class}
 use Rattle.click_base.specs.declared.class.Class.TheVariants as class
@@ -16,30 +16,31 @@ use Rattle.click_engine.specs.declared.tasks.TaskKind.TheVariants as kind
 abbrev pub places_of : List Task → List ℕ
 places_of tasks = map (λ (t : Task). t.at) tasks
 
--- the class whose task it is
+-- the class of the elements with such a task
 abbrev pub class_of_task : TaskKind → Class
 class_of_task kind.InfiniteSource = class.InfiniteSource
 class_of_task kind.Unqueue = class.Unqueue
 class_of_task kind.Discard = class.Discard
 
--- that is the class of the element at the place
+-- the element of the task has the class of the task
 abbrev pub IsTaskIn : List Shape → Task → Type 0
 IsTaskIn shapes t = option_map (λ (s : Shape). s.class) (slice_get shapes t.at) ≡ Some (class_of_task t.kind)
 
--- a source's first packet in a run of its task, of so many at most
+-- the first packet of a source in its task, which emits `most` packets at most
 abbrev pub FirstOfSource : RunState → RunState → ℕ → ℕ → Option Packet → Type 0
 FirstOfSource w v at most last =
     let s = (element_at w at).state in
     MatchOption (if nat_lt 0 (burst_of s) then emission s else None) ((most ≡ 0) × (v ≡ w))
     (λ e. (most ≡ burst_of s) × (v ≡ with_state w at e.state) × (last ≡ Some e.packet))
 
--- the packet that the task of an element of that class gives, where it gives just one: that of a source whose burst is one, or what an Unqueue pulls
+-- the packet of a task that yields a single one, by the element's class: of a source whose burst is
+-- one, or what an Unqueue pulls
 abbrev pub TakesOne : Wiring → RunState → RunState → Class → ℕ → Bool → Option Packet → Type 0
 TakesOne net w v class.InfiniteSource at taken last = (taken ≡ true → FirstOfSource w v at 1 last) × (taken ≡ false → v ≡ w)
 TakesOne net w v class.Unqueue at taken last = (pull net w.left w at 0 ≡ record { run_state = v; packet = last }) × (IsTrue taken ↔ IsSome last)
 TakesOne net w v c at taken last = (taken ≡ false) × (v ≡ w)
 
--- what is left of a task that gave no packet so
+-- the rest of a task that yielded no packet by `TakesOne`
 abbrev pub task_apart : Class → Plant → ℕ → RoundResult
 task_apart class.InfiniteSource v at = bursts (burst_of (state_at v at)) at v
 task_apart class.Discard v at = discarded v at

@@ -30,7 +30,7 @@ unnamed_by n m ns true e k t d = absurd (cc t)
 unnamed_by n m ns false e k t (zero, l, s) = let q : bytes_eq n m ≡ true = (bytes_eq-Decides n m).1 (sym s) in absurd (cc (sym e ∙ q))
 unnamed_by n m ns false e k t (suc i, l, s) = k t (i, omega (arith, l), s)
 
--- a name that is known is among the names
+-- a known name is one of the names
 pub named : (n : List ℕ) (ns : List (List ℕ)) → has_name n ns ≡ true → Contains ns n
 named n [] h = absurd (cc h)
 named n (m ∷ ns) h = named_by n m ns (bytes_eq n m) refl (named n ns) h
@@ -49,7 +49,7 @@ distinct-push (m ∷ ns) n h k = (
     push_cases : (ns : List (List ℕ)) (n m : List ℕ) → Contains (ns ++ n ∷ []) m → Contains ns m ⊎ (n ≡ m)
     push_cases ns n m c = Contains-push_cases ns n m c
 
--- the names of the elements so far
+-- the names of the elements, with one more
 pub names-more : (es : List FlatElement) (i : ℕ) (d e : FlatElement) (ns new : List (List ℕ)) → i < length es → e ≡ get_or es i d → ns ≡ flat_names_in (take i es) →
     has_name e.name ns ≡ false → new ≡ cond (has_name e.name ns) ns (ns ++ e.name ∷ []) → AreDistinct ns → (new ≡ flat_names_in (take (i + 1) es)) × AreDistinct new
 names-more es i d e ns new l is p h q k =
@@ -76,7 +76,7 @@ whole-more es i d e l is h k =
     subst (All (λ (x : FlatElement). is_whole x.text ≡ true)) (sym (take_more es i d l))
     (All-push (λ (x : FlatElement). is_whole x.text ≡ true) (take i es) (get_or es i d) k (subst (λ (x : FlatElement). is_whole x.text ≡ true) is h))
 
--- what closes a part of a text does not close the whole of it
+-- if a prefix closes the string, the text closes it only if it is that prefix
 pub whole-found : (xs : List ℕ) (n : ℕ) → n ≤ length xs → closes mode.Plain 1 (take n xs) ≡ true → nat_eq n (length xs) ≡ closes mode.Plain 1 xs
 whole-found xs n l h =
     elim (cases_order n (length xs)) [

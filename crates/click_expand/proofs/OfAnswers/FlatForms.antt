@@ -1,4 +1,4 @@
--- The flat form of a sound configuration, or what is refused of it.
+-- The flat form of a sound configuration, or its refusal.
 use Rattle.std.proofs.Common.{◌≡◌, inl, inr, ℕ, ◌+◌, ◌<◌, ◌≤◌, List, length, Some, None, refl, sym, ◌∙◌, subst, arith}
 use Rattle.std.specs.Prelude.{min}
 use Rattle.click_text.specs.declared.syntax.Config.{Config}
@@ -36,7 +36,7 @@ too-many-paths c nested sound size h l =
     let e = primitive_elements-exist c nested sound in
     too_many e.0 e.1 sound e.2 (many_paths (min-over e.1 most_paths (subst (λ n. most_paths < n) (h e.0 e.1 e.2).all_paths l)))
 
--- the primitive elements of a configuration whose size is within the limits
+-- the flat elements of a configuration whose size is within the limits
 pub record IsCounted (c : Config) (size : Size) : Type 0 where
   pub primitive_elements : List PrimitiveElement
   pub are : PrimitiveElementsOf c primitive_elements size.paths
@@ -91,7 +91,7 @@ told c (refused.At k s) h = inr h
 told c refused.TooMany h = inr h
 told c (refused.Broken name) h = inr h
 
--- what has a flat form is refused for out of memory alone
+-- the only refusal of a configuration with a flat form is out of memory
 pub refused-for-memory : (c : Config) → IsNested c → (f : Flat) → IsFlat c f → (why : Refusal) → IsRefused c why → fault_for why ≡ no_memory
 refused-for-memory c nested f is refused.NoMemory h = refl
 refused-for-memory c nested f is (refused.At k s) h = absurd (flat-no-fault c nested f (fault_for (refused.At k s)) is h)

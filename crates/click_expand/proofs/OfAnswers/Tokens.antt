@@ -1,4 +1,4 @@
--- The flat elements by the tables: what they begin with, and which of them are refused.
+-- The flat elements by the tables: their heads, and which of them are refused.
 use Rattle.std.proofs.Common.{◌≡◌, ℕ, suc, zero, ◌<◌, List, [], ◌∷◌, ◌++◌, map, take, length, true, All, Contains, Some, None, refl, sym, ap, ◌∙◌, subst, arith}
 use Rattle.std.specs.List.{slice_get, slice_index_or}
 use Rattle.std.proofs.lemmas.Option.{same_Some, slice_get_within}
@@ -38,7 +38,7 @@ head-found : (scopes : List ScopeKept) (instances : List InstanceKept) (places :
 head-found scopes instances places n p k s l a b d e =
     ap (place_head scopes instances) a ∙ ap (instance_head scopes p.element) b ∙ ap (scope_head p.element) d ∙ ap scope_element_head e
 
--- what a flat element begins with, by the tables
+-- the head of a flat element, by the tables
 pub record IsHeaded (c : Config) (scopes : List ScopeKept) (instances : List InstanceKept) (places : List Place) (n : ℕ) (f : PrimitiveElement) : Type 0 where
   pub head : Head
   pub there : head_in scopes instances places n ≡ Some head
@@ -84,7 +84,7 @@ taken-primitive_elements (f ∷ front) back l i e =
     subst (λ j. take j (map flat_element (f ∷ front ++ l ∷ back)) ≡ map flat_element (f ∷ front)) e
     (ap (λ xs. flat_element f ∷ xs) (taken-primitive_elements front back l (length front) refl))
 
--- the primitive element of an element at a place, and what stands before it
+-- the flat element at an index, and those before it
 record IsPrimitiveElementAt (primitive_elements : List PrimitiveElement) (es : List FlatElement) (i : ℕ) (e : FlatElement) : Type 0 where
   primitive_element : PrimitiveElement
   there : slice_get primitive_elements i ≡ Some primitive_element

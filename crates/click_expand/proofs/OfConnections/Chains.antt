@@ -1,4 +1,4 @@
--- Chains of connections as written, and the steps from instance to instance by which they are followed.
+-- Chains of written connections, and the steps from instance to instance that follow them.
 use Rattle.std.proofs.Common.{◌≡◌, ◌≢◌, ℕ, ◌<◌, zero, suc, List, [], ◌∷◌, ◌++◌, length, true, false, Some, Contains, refl, sym, ap, ◌∙◌, subst, arith}
 use Rattle.std.specs.List.{slice_get}
 use Rattle.std.specs.Str.{bytes_eq}
@@ -48,7 +48,7 @@ at-some (x ∷ xs) (suc i) l = at-some xs i (omega (arith, l))
 written_connection-behind : {X : Type 0} (y : X) (xs : List X) (x : X) → Contains xs x → Contains (y ∷ xs) x
 written_connection-behind y xs x (k, l, e) = (suc k, omega (arith, l), e)
 
--- the connection as written of a kept one, and the other way
+-- the written connection of a stored one, and the stored one of a written one
 pub written_connection-of : (ls : List ScopeElement) (ks : List ConnectionKept) (js : List WrittenConnection) (k : ConnectionKept) → AreWrittenConnections ls ks js → Contains ks k → (j : WrittenConnection) × Contains js j × IsWrittenConnection ls k j
 written_connection-of ls [] js k h m = absurd (omega (arith, m.1))
 written_connection-of ls (x ∷ ks) [] k h m = absurd h
@@ -63,13 +63,13 @@ kept-of ls (k ∷ ks) (i ∷ js) j h (zero, l, e) = (k, (0, omega arith, refl), 
 kept-of ls (k ∷ ks) (i ∷ js) j h (suc n, l, e) =
     let r = kept-of ls ks js j h.1 (n, omega (arith, l), e) in (r.0, written_connection-behind k ks r.0 r.1, r.2)
 
--- a port of an instance as a source is that end of connections
+-- the node of a port of an instance, as a source of connections
 abbrev pub Denotes : List ScopeElement → List (List ℕ) → Owner → ℕ → Node → Type 0
 Denotes ls path owner.Input p n = n ≡ input_of path p
 Denotes ls path owner.Output p n = ⊥
 Denotes ls path (owner.Element i) p n = (l : ScopeElement) × (slice_get ls i ≡ Some l) × (n ≡ output_of (path ++ l.name ∷ []) p)
 
--- and as a target
+-- the node of a port of an instance, as a target of connections
 abbrev pub Ends : List ScopeElement → List (List ℕ) → Owner → ℕ → Node → Type 0
 Ends ls path owner.Input p n = ⊥
 Ends ls path owner.Output p n = n ≡ output_of path p
@@ -101,7 +101,7 @@ finish ls path owner.Output e p h n = ap (λ r. end_node path e r p) h.0
 finish ls path (owner.Element i) e p h n =
     (h.1.0, h.1.1, ends-element path e p e.role h.0 ∙ ap (λ x. input_of (path ++ x ∷ []) p) (sym h.1.2))
 
--- a port is one end
+-- a port has one node
 pub denotes-same : (ls : List ScopeElement) (path : List (List ℕ)) (o : Owner) (p : ℕ) (m n : Node) → Denotes ls path o p m → Denotes ls path o p n → m ≡ n
 denotes-same ls path owner.Input p m n h k = h ∙ sym k
 denotes-same ls path owner.Output p m n h k = absurd h
@@ -117,7 +117,7 @@ output-same p q n m h = (let a : p ≡ q = cc h in a, let b : n ≡ m = cc h in 
 pub apart : (p q : List (List ℕ)) (n m : ℕ) → input_of p n ≡ output_of q m → ⊥
 apart p q n m h = cc h
 
--- an end is a port of the instances at one path
+-- a node belongs to the instances at one path only
 pub path-same : (ls ks : List ScopeElement) (p q : List (List ℕ)) (o r : Owner) (i j : ℕ) (m n : Node) → Denotes ls p o i m → Denotes ks q r j n → m ≡ n → p ≡ q
 path-same ls ks p q owner.Input owner.Input i j m n h k e = (input-same p q i j (sym h ∙ e ∙ k)).0
 path-same ls ks p q owner.Input owner.Output i j m n h k e = absurd k
@@ -128,7 +128,7 @@ path-same ls ks p q (owner.Element x) owner.Output i j m n h k e = absurd k
 path-same ls ks p q (owner.Element x) (owner.Element y) i j m n h k e =
     (push-same p q h.0.name k.0.name (output-same (p ++ h.0.name ∷ []) (q ++ k.0.name ∷ []) i j (sym h.2 ∙ e ∙ k.2)).0).0
 
--- and where the elements have different names, one port
+-- if the elements have different names, a node has one port
 pub denotes-once : (ls : List ScopeElement) (path : List (List ℕ)) → ((i j : ℕ) (l m : ScopeElement) → slice_get ls i ≡ Some l → slice_get ls j ≡ Some m → l.name ≡ m.name → i ≡ j) →
     (o r : Owner) (i j : ℕ) (n : Node) → Denotes ls path o i n → Denotes ls path r j n → (o ≡ r) × (i ≡ j)
 denotes-once ls path d owner.Input owner.Input i j n h k = (refl, (input-same path path i j (sym h ∙ k)).1)
@@ -150,7 +150,7 @@ module _ (c : Config) (nested : IsNested c) (sound : IsFaultless c) where
       (i j : ℕ) (l m : ScopeElement) → slice_get (elements_of_scope c s v) i ≡ Some l → slice_get (elements_of_scope c s v) j ≡ Some m → l.name ≡ m.name → i ≡ j
   names-apart s v enclosing st i j l m = distinct c sound s v enclosing st i j l m
 
-  -- two elements of a scope that have one name are one
+  -- two elements of a scope with the same name are the same
   pub scope_element-same : (s t : Scope) (v w : List Statement) (enclosing : List Scope) → Stands c s v enclosing → s ≡ t → v ≡ w → (i j : ℕ) (l m : ScopeElement) →
       slice_get (elements_of_scope c s v) i ≡ Some l → slice_get (elements_of_scope c t w) j ≡ Some m → l.name ≡ m.name → l ≡ m
   scope_element-same s t v w enclosing st p q i j l m h k e =
@@ -160,7 +160,7 @@ module _ (c : Config) (nested : IsNested c) (sound : IsFaultless c) where
   scope_element-there : (s : Scope) (v : List Statement) (before after : List ScopeElement) (l : ScopeElement) → elements_of_scope c s v ≡ before ++ l ∷ after → slice_get (elements_of_scope c s v) (length before) ≡ Some l
   scope_element-there s v before after l e = ap (λ x. slice_get x (length before)) e ∙ middle-at before l after
 
-  -- a path leads to one scope
+  -- a path leads to one scope only
   pub leads-once : (p q : List (List ℕ)) (s t : Scope) (v w : List Statement) → LeadsTo c p s v → LeadsTo c q t w → p ≡ q → (s ≡ t) × (v ≡ w)
   leads-once _ _ _ _ _ _ to_whole to_whole e = (refl, refl)
   leads-once _ _ _ _ _ _ to_whole (to_inner q t w before after l b inner outer h is m st) e = absurd (push-not-nil q l.name (sym e))
@@ -196,13 +196,13 @@ module _ (c : Config) (nested : IsNested c) (sound : IsFaultless c) where
   begins-top path e p n refers h = push-not-nil path e.name (output-same (path ++ e.name ∷ []) [] p n h).0
   begins-top path e p n makes h = push-not-nil path e.name (output-same (path ++ e.name ∷ []) [] p n h).0
 
-  -- nothing leads on from an input that is no scope's
+  -- no connection leads on from an input that does not belong to a scope
   pub nothing-behind : (q : List (List ℕ)) (n : ℕ) → ((t : Scope) (w : List Statement) → LeadsTo c q t w → ⊥) → (a b : Node) → Leads c a b → a ≡ input_of q n → ⊥
   nothing-behind q n f _ _ (by_connection path s visible j h m) e =
       let r = begins-input path q j.from j.out_port n j.from.role e in f s visible (subst (λ x. LeadsTo c x s visible) r h)
   nothing-behind q n f _ _ (further a b d x y) e = nothing-behind q n f a b x e
 
-  -- nor from an output of the whole text
+  -- no connection leads on from an output of the whole text
   pub nothing-out : (n : ℕ) (a b : Node) → Leads c a b → a ≡ output_of [] n → ⊥
   nothing-out n _ _ (by_connection path s visible j h m) e = begins-top path j.from j.out_port n j.from.role e
   nothing-out n _ _ (further a b d x y) e = nothing-out n a b x e

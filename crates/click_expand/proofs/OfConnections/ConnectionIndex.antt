@@ -1,4 +1,4 @@
--- The connections of a scope by the ports that they begin at.
+-- The connections of a scope by their source ports.
 use Rattle.std.proofs.Common.{◌≡◌, inl, inr, ℕ, ◌+◌, ◌<◌, zero, suc, List, [], ◌∷◌, ◌++◌, length, get_or, take, Bool, true, false, ◌&&◌, nat_eq, cond, Some, Contains, refl, sym, ap, ◌∙◌, subst, arith}
 use Rattle.std.specs.Map.{lookup}
 use Rattle.std.specs.List.{slice_get}
@@ -129,7 +129,7 @@ index-at (j ∷ all) (x ∷ xs) zero k h e = (x, refl, subst (λ (s : ScopeKept)
     some_same h = cc h
 index-at (j ∷ all) (x ∷ xs) (suc i) k h e = index-at all xs i k h.1 e
 
--- the port of ports that are there is among the keys
+-- a port with ends is one of the keys
 pub key-at : (es : List (ScopePort × PortEnds)) (a b : ScopePort) → Contains (ends_in es a) b → (i : ℕ) × (v : PortEnds) × (slice_get es i ≡ Some (a, v))
 key-at [] a b h = absurd (omega (arith, h.1))
 key-at (e ∷ es) a b h = by (same_port a e.0) refl (key-at es a b) h

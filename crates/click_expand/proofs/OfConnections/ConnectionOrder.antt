@@ -13,14 +13,14 @@ use Rattle.std.specs.List.{All}
 use Rattle.std.proofs.lemmas.List.Elements.{All-nil, All-cons}
 use Rattle.click_expand.specs.Flat.{StandsBefore, AreOrdered}
 
--- the derived order
+-- the derived comparison
 abbrev pub compare : Connection → Connection → Ordering
 compare = then_cmp (on (λ c. c.from) nat_cmp) (then_cmp (on (λ c. c.out_port) nat_cmp) (then_cmp (on (λ c. c.to) nat_cmp) (on (λ c. c.in_port) nat_cmp)))
 
 pub compare_total : IsTotalOrder compare
 compare_total = then_total (on_total (λ c. c.from) nat_cmp_total) (then_total (on_total (λ c. c.out_port) nat_cmp_total) (then_total (on_total (λ c. c.to) nat_cmp_total) (on_total (λ c. c.in_port) nat_cmp_total)))
 
--- the derived test of equality
+-- the derived equality test
 abbrev pub same : Connection → Connection → Bool
 same c d = nat_eq c.from d.from && (nat_eq c.out_port d.out_port && (nat_eq c.to d.to && nat_eq c.in_port d.in_port))
 
@@ -51,7 +51,7 @@ nat_less a b h = grind (arith, nat_tests)
 nat_equal : (a b : ℕ) → nat_cmp a b ≡ Equal → a ≡ b
 nat_equal a b h = grind (arith, nat_tests)
 
--- by one number, else by what follows
+-- compared by one number, and then by the rest
 by_number : (a b : ℕ) (o : Ordering) {P : Type 0} → (o ≡ Less → P) → ordering_then (nat_cmp a b) o ≡ Less → (a < b) ⊎ ((a ≡ b) × P)
 by_number a b o f h = elim (then_less (nat_cmp a b) o h) [ inl l ↦ inl (nat_less a b l) | inr e ↦ inr (nat_equal a b e.0, f e.1) ]
 

@@ -1,4 +1,4 @@
--- What is found, in order, are the connections of the flat elements.
+-- The found connections, in order, are those of the flat elements.
 use Rattle.std.proofs.Common.{◌≡◌, ◌↔◌, ◌≤◌, List, length, Contains, arith}
 use Rattle.std.specs.List.{IsDistinct}
 use Rattle.click_text.specs.declared.syntax.Config.{Config}
@@ -27,7 +27,7 @@ module _ (c : Config) (nested : IsNested c) (sound : IsFaultless c) (scopes : Li
     (shortened : AreShortened (ends_at whole) (body_at scopes) (ends_at short) short) (found ordered : List Connection) (order : AreOrdered ordered)
     (alike : (k : Connection) → Contains ordered k ↔ Contains found k) (found_sound : (k : Connection) → Contains found k → Connects instances short k) where
   module _ (known : List KnownInstance) (primitive_elements : List PrimitiveElement) (are : AreInstances c instances places known primitive_elements) where
-    -- the shortened connections lead where those as written do
+    -- the shortened connections lead to the same inputs as the written ones
     short-same : (k : Connection) → Connects instances whole k ↔ Connects instances short k
     short-same = connects-short instances (body_at scopes) (instances-nested c scopes all instances places known primitive_elements are) whole short as_many shortened
 

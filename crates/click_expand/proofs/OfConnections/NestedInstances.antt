@@ -1,4 +1,4 @@
--- Each element of an instance is a flat element or the instance of its body.
+-- Each element of an instance is a flat element, or the instance of its body.
 use Rattle.std.proofs.Common.{◌≡◌, ℕ, zero, suc, List, [], ◌∷◌, map, Option, Some, None, refl, sym, ap, ◌∙◌, subst, arith}
 use Rattle.std.specs.List.{slice_get}
 use Rattle.std.proofs.lemmas.Option.{slice_get_within, none-some}
@@ -25,14 +25,14 @@ use Rattle.click_scopes.proofs.OfLists.ListParts.{map-there}
 use Rattle.click_scopes.proofs.OfElements.ElementBodies.{means-compound}
 use Rattle.click_expand.proofs.OfConnections.Chains.{some_same, at-some}
 
--- a class of the router's stands for no body
+-- a class of the router means no body
 primitive-body : (o : Option ResolvedClass) (w : Class) → meaning_by o ≡ Some (primitive w) → class_body o ≡ None
 primitive-body None w h = absurd (cc h)
 primitive-body (Some (class.Primitive s)) w h = refl
 primitive-body (Some (class.Compound d)) w h = absurd (cc h)
 
 module _ (c : Config) (scopes : List ScopeKept) (all : AreAllScopes c scopes) (instances : List Instance) (places : List Place) (known : List KnownInstance) (primitive_elements : List PrimitiveElement) (are : AreInstances c instances places known primitive_elements) where
-  -- an element of an instance, in the words of the definitions, stands for what the kept one does
+  -- an element of a known instance means the same body as the stored one
   record IsBodyAt (x : KnownInstance) (s i : ℕ) (l : ScopeElement) : Type 0 where
     pub of_compound : (b : ℕ) → l.meaning ≡ Some (compound b) → body_at scopes s i ≡ Some b
     pub of_primitive : (w : Class) → l.meaning ≡ Some (primitive w) → body_at scopes s i ≡ None
@@ -87,12 +87,12 @@ module _ (c : Config) (scopes : List ScopeKept) (all : AreAllScopes c scopes) (i
       let scope : m.scope ≡ inner.body = y.2.scope ∙ ap (table_place c) inner.scope in
       (m, w.2.1, w.2.2, (body-of u k r.0 r.2 i h.scope_element h.there).of_compound inner.body meaning ∙ ap (λ z. Some z) (sym scope))
 
-  -- an element with a body is none of the router's
+  -- an element with a body is not of the router's classes
   with-body : (u i b : ℕ) (k : Instance) → slice_get instances u ≡ Some k → body_at scopes k.scope i ≡ Some b → (p : InstancePart) → slice_get k.parts i ≡ Some p → (v : ℕ) × (slice_get k.parts i ≡ Some (part.Inner v))
   with-body u i b k there is (part.PrimitiveElement l) e = absurd (none-some b (sym (primitive_element-body u i l k there e) ∙ is))
   with-body u i b k there is (part.Inner v) e = (v, e)
 
-  -- where there is a body there is an element
+  -- if there is a body, there is an element
   scope_element-with : (i b : ℕ) (ls : List ScopeElementKept) → scope_element_body (slice_get ls i) ≡ Some b → (l : ScopeElementKept) × (slice_get ls i ≡ Some l)
   scope_element-with i b ls is = by (slice_get ls i) refl is
     where

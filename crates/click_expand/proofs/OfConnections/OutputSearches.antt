@@ -1,4 +1,4 @@
--- The connections that searches from all outputs find.
+-- The connections that the searches from all outputs find.
 use Rattle.std.proofs.Common.{◌≡◌, inl, inr, ℕ, ◌+◌, ◌<◌, ◌≤◌, zero, suc, List, [], ◌∷◌, length, Bool, true, false, ◌||◌, Option, Some, None, Contains, refl, sym, ap, ◌∙◌, subst, arith}
 use Rattle.std.specs.List.{slice_get, list_any, IsDistinct}
 use Rattle.std.specs.Option.{option_copied}
@@ -25,7 +25,7 @@ use Rattle.click_expand.proofs.OfConnections.ConnectionOrder.{same, same_equiv, 
 use Rattle.click_expand.proofs.OfConnections.Chains.{some_same}
 use Rattle.click_expand.proofs.OfConnections.PortSearch.{gains-none, gains-trans, gains-kept, gains-cases, gains-length, gains-weaken}
 
--- what `get` gives
+-- the result of `get`
 pub item-is : {X : Type 0} (xs : List X) (i : ℕ) (r : Option (Bor X)) → IsItemAt xs i r → slice_get xs i ≡ option_copied r
 item-is xs i None h = slice_get_past xs i h.3
 item-is xs i (Some x) h = slice_get_read xs (length xs) i x.now refl h.3.0 h.1
@@ -59,7 +59,7 @@ module _ (instances : List Instance) (indices : List ConnectionIndex) (within : 
     pub port-all : (new : List Connection) → HasAll (IsFrom instances indices primitive_element (instance_port within p)) new → HasAll (IsFromPort instances indices within p) new
     port-all new h k m = h k (of-port k m)
 
--- What comes from the places below one is gathered, all of it where there are no more than the limit.
+-- What comes from the indices below i was gathered: all of it, if there is no more than the limit.
 pub record Gathers {X : Type 0} (P : ℕ → X → Type 0) (most i : ℕ) (old new : List X) : Type 0 where
   pub gains : Gains (λ x. (j : ℕ) × P j x) old new
   pub all : length new ≤ most → (j : ℕ) → j < i → HasAll (P j) new
@@ -82,7 +82,7 @@ module _ {X : Type 0} (P : ℕ → X → Type 0) (most : ℕ) where
   gathers-skip i a b h f = gathers-more i a b b h (gains-none (P i) b) (λ few x p. absurd (f x p))
 
 module _ (instances : List Instance) (indices : List ConnectionIndex) where
-  -- a connection from the port that is the key at a place of the index
+  -- a connection from the port that is the key at index j
   abbrev pub IsFromKey : ℕ → List (ScopePort × PortEnds) → ℕ → Connection → Type 0
   IsFromKey within entries j k = (p : ScopePort) × (v : PortEnds) × (slice_get entries j ≡ Some (p, v)) × IsFromPort instances indices within p k
 
@@ -116,7 +116,7 @@ module _ (instances : List Instance) (indices : List ConnectionIndex) where
       let l = slice_get_within index.ends.entries j.0 (m.port, j.1) j.2 in
       h.all few j.0 (omega (arith, l, end)) k (m.port, j.1, j.2, m.is_from)
 
-  -- an instance that is not there, or whose scope has no index
+  -- there is no such instance, or its scope has no index
   pub use-none : (within : ℕ) → slice_get instances within ≡ None → (k : Connection) → IsFromInstance instances indices within k → ⊥
   use-none within e k m = let s : None ≡ Some m.is_from.used = sym e ∙ m.is_from.there in cc s
 
@@ -138,7 +138,7 @@ module _ (instances : List Instance) (indices : List ConnectionIndex) where
       let l = slice_get_within instances m.within m.is_from.is_from.used m.is_from.is_from.there in
       h.all few m.within (omega (arith, l, end)) k m.is_from
 
--- a connection that is there passes the test
+-- a connection in the list passes the test
 member : (xs : List Connection) (k : Connection) → Contains xs k → list_any (same k) xs ≡ true
 member [] k h = absurd (omega (arith, h.1))
 member (x ∷ xs) k (zero, l, e) = ap (λ b. b || list_any (same k) xs) (subst (λ y. same k y ≡ true) (sym e) (same-self k))
@@ -151,6 +151,6 @@ member (x ∷ xs) k (suc n, l, e) = or-right (same k x) (list_any (same k) xs) (
     or-right true b h = refl
     or-right false b h = h
 
--- different connections are no more than those of a list that has them all
+-- a list of different connections is no longer than a list that contains them all
 pub distinct-within : (xs ys : List Connection) → IsDistinct same xs → ((k : Connection) → Contains xs k → Contains ys k) → length xs ≤ length ys
 distinct-within xs ys d f = length-le_from_is_member same_equiv xs ys d (λ k h. member ys k (f k (Contains-list_any same exact xs k h)))

@@ -1,4 +1,4 @@
--- A search through a scope finds the outputs that connections from one of its inputs lead to.
+-- A search through a scope finds the outputs to which connections from one of its inputs lead.
 use Rattle.std.proofs.Common.{◌≡◌, ◌⊎◌, inl, inr, ℕ, ◌+◌, ◌<◌, ◌≤◌, zero, suc, List, [], ◌∷◌, ◌++◌, length, get_or, take, Option, Some, Contains, refl, sym, ap, ◌∙◌, subst, arith}
 use Rattle.std.specs.List.{slice_get}
 use Rattle.std.proofs.lemmas.Bool.{cases_order}
@@ -23,11 +23,11 @@ contains-single : {X : Type 0} (x y : X) → Contains (x ∷ []) y → x ≡ y
 contains-single x y (zero, l, e) = e
 contains-single x y (suc k, l, e) = absurd (omega (arith, l))
 
--- a port whose owner is known
+-- a port with a given owner
 port-of : (p : ScopePort) (o : Owner) → p.owner ≡ o → p ≡ scope_port o p.number
 port-of p o e = ap (λ x. scope_port x p.number) e
 
--- one more port has that owner
+-- one more port with that owner
 pub owned-next : (o : Owner) (es : List ScopePort) (i : ℕ) (e d : ScopePort) → i < length es → e ≡ get_or es i d → ((p : ScopePort) → Contains (take i es) p → p.owner ≡ o) → e.owner ≡ o →
     (p : ScopePort) → Contains (take (i + 1) es) p → p.owner ≡ o
 owned-next o es i e d l is all own p h =
@@ -53,7 +53,7 @@ module _ (element : ℕ) where
         ],
       )
 
-  -- each insertion adds an output of that number
+  -- each insertion adds an output with the number of one of the ports
   pub outputs-next : (outs : List ScopePort) (i : ℕ) (e d : ScopePort) (a b x : List ScopePort) → i < length outs → e ≡ get_or outs i d →
       Gains (IsOutputOf element (take i outs)) a b × HasAll (IsOutputOf element (take i outs)) b → x ≡ insert_key same_port b (scope_port (owner.Element element) e.number) →
       Gains (IsOutputOf element (take (i + 1) outs)) a x × HasAll (IsOutputOf element (take (i + 1) outs)) x
@@ -62,13 +62,14 @@ module _ (element : ℕ) where
       (ap (λ y. take i outs ++ y ∷ []) is ∙ sym (take_more outs i d l)) (outputs-push (take i outs) e a b x h new)
 
 module _ (ends : ℕ → ScopePort → List ScopePort) (body : ℕ → ℕ → Option ℕ) (short : ℕ → ScopePort → List ScopePort) where
-  -- one stands in for an output of the scope only if it is the same, and only the same is an output of the scope
+  -- a stand-in is an output of the scope only if it is the same port
   stands-same : (s : ℕ) (p q : ScopePort) → StandsIn ends body short s p q → (q.owner ≡ owner.Output) ⊎ (p.owner ≡ owner.Output) → p ≡ q
   stands-same s _ _ (same p) h = refl
   stands-same s _ _ (alike i n k inner e l) (inl h) = absurd (cc h)
   stands-same s _ _ (alike i n k inner e l) (inr h) = absurd (cc h)
 
-  -- what stands in for an input of an element is an input of that element, through which connections lead as through the other
+  -- the stand-in for an input of an element is an input of the same element that leads to the same
+  -- outputs
   pub record StandsBefore (s i : ℕ) (p q : ScopePort) : Type 0 where
     pub outer : ℕ
     pub outer_is : p ≡ scope_port (owner.Element i) outer
@@ -91,7 +92,7 @@ module _ (ends : ℕ → ScopePort → List ScopePort) (body : ℕ → ℕ → O
             subst (λ (x : ℕ). LeadsThrough ends body x n (short x (scope_port owner.Input k))) (some_same (sym b ∙ ap (body s) e ∙ c)) l;
       }
 
-  -- where all connections from a port lead to outputs of the scope, nothing else can be reached
+  -- if all connections from a port lead to outputs of the scope, nothing else is reached
   runs-out : (s : ℕ) (a b : ScopePort) → ((p : ScopePort) → Contains (ends s a) p → p.owner ≡ owner.Output) → LeadsInScope ends body s a b → Contains (ends s a) b
   runs-out s a b all (by_one_connection _ _ _ h) = h
   runs-out s a b all (over _ i n inner m _ _ r e t u) =
@@ -119,7 +120,7 @@ module _ (ends : ℕ → ScopePort → List ScopePort) (body : ℕ → ℕ → O
           let r = stood.each p h in
           ap (λ (x : ScopePort). x.owner) (stands-same s p r.0 r.2 (inl (all r.0 r.1))) ∙ all r.0 r.1
 
-  -- what is looked up of a body that is done
+  -- what is found for a body whose index is done
   pub leads-through : (done : List ConnectionIndex) (b n : ℕ) (x : ConnectionIndex) (outs : List ScopePort) → AreShortened ends body short done → slice_get done b ≡ Some x → outs ≡ ends_in x.ends.entries (scope_port owner.Input n) →
       ((p : ScopePort) → Contains outs p → p.owner ≡ owner.Output) → (outs ≡ short b (scope_port owner.Input n)) × LeadsThrough ends body b n outs
   leads-through done b n x outs h there is all =
@@ -241,13 +242,14 @@ module _ (ends : ℕ → ScopePort → List ScopePort) (body : ℕ → ℕ → O
           ));
     }
 
-    -- nothing more is to be seen or found after these ends, and each of them leads through
+    -- the search has continued after all of these ends, and each of them is a pass-through input or
+    -- an output
     pub record IsClosed (seen outs es : List ScopePort) : Type 0 where
       pub seen_all : HasAll (GoesOver body short s es) seen
       pub outs_all : HasAll (GoesOut es) outs
       pub through : AllLeadThrough ends body short s es
 
-    -- an end that stands for an element's input that connections lead to, and leads through as that does
+    -- one of these ends stands in for the input n of element i, and leads to the same outputs
     pub record Meets (es : List ScopePort) (i n : ℕ) : Type 0 where
       pub number : ℕ
       pub there : Contains es (scope_port (owner.Element i) number)
@@ -271,18 +273,18 @@ module _ (ends : ℕ → ScopePort → List ScopePort) (body : ℕ → ℕ → O
         }
 
     module _ (here : ScopePort → List ScopePort) (are : AreEndsOf ends body short s here) where
-      -- from there connections lead to an end of a port whose ends are gone on from
+      -- connections lead to b from a port after which the search has continued
       pub record Reaches (seen outs : List ScopePort) (b : ScopePort) : Type 0 where
         pub by : ScopePort
         pub closed : IsClosed seen outs (here by)
         pub joined : Contains (ends s by) b
 
       module _ (from : ScopePort) where
-        -- a port from which connections lead on as they do from each input with the same ends as the first
+        -- connections lead to t from each input with the same ends as `from`
         abbrev pub IsReached : ScopePort → Type 0
         IsReached t = (t ≡ from) ⊎ ((n : ℕ) → here (scope_port owner.Input n) ≡ here from → (b : ScopePort) → Contains (ends s t) b → LeadsInScope ends body s (scope_port owner.Input n) b)
 
-        -- an end stands for a port that connections lead to from that input
+        -- connections from input n lead to a port for which q stands in
         pub record IsMet (n : ℕ) (q : ScopePort) : Type 0 where
           pub met : ScopePort
           pub runs : LeadsInScope ends body s (scope_port owner.Input n) met
@@ -314,7 +316,8 @@ module _ (ends : ℕ → ScopePort → List ScopePort) (body : ℕ → ℕ → O
             (subst (LeadsInScope ends body h.inner (scope_port owner.Input x.outer)) r.1 r.2)
             (by_one_connection s (scope_port (owner.Element h.element) r.0) b (subst (λ (y : ScopePort). Contains (ends s y) b) to m)))
 
-        -- an output of the scope that connections lead to, from each input with the same ends as the first
+        -- p is an output of the scope, and connections lead to it from each input with the same
+        -- ends as `from`
         abbrev pub IsSound : ScopePort → Type 0
         IsSound p = (p.owner ≡ owner.Output) × ((n : ℕ) → here (scope_port owner.Input n) ≡ here from → LeadsInScope ends body s (scope_port owner.Input n) p)
 
@@ -325,7 +328,7 @@ module _ (ends : ℕ → ScopePort → List ScopePort) (body : ℕ → ℕ → O
               subst (LeadsInScope ends body s (scope_port owner.Input n)) (stands-same s met.met p met.stands (inl h.1)) met.runs,
         )
 
-        -- A search from a port has gone on from the first of the ports that are seen.
+        -- The search from a port has continued at the first `at` of the ports that were seen.
         pub record Goes (seen outs : List ScopePort) (at : ℕ) : Type 0 where
           pub begins : Contains seen from
           pub reached : (t : ScopePort) → Contains seen t → IsReached t
@@ -354,7 +357,7 @@ module _ (ends : ℕ → ScopePort → List ScopePort) (body : ℕ → ℕ → O
           closed-here : IsClosed b g (here t)
           closed-here = record { seen_all = v.seen_all; outs_all = v.outs_all; through = v.through }
 
-          -- a port before the next one is an earlier one, or this one
+          -- a port before the next one is an earlier port, or this one
           earlier : (j : ℕ) (u : ScopePort) → j < at + 1 → slice_get b j ≡ Some u → ((j < at) × (slice_get a j ≡ Some u)) ⊎ (u ≡ t)
           earlier j u l h =
               let within = slice_get_within a at t there in
@@ -381,7 +384,7 @@ module _ (ends : ℕ → ScopePort → List ScopePort) (body : ℕ → ℕ → O
             ];
           }
 
-  -- what connections lead to from a port whose ends are gone on from
+  -- what connections lead to, from a port after which the search has continued
   runs-reach : (s : ℕ) (here : ScopePort → List ScopePort) (are : AreEndsOf ends body short s here) (seen outs : List ScopePort) → ((t : ScopePort) → Contains seen t → IsClosed s seen outs (here t)) →
       (a b : ScopePort) → IsClosed s seen outs (here a) → LeadsInScope ends body s a b → Reaches s here are seen outs b
   runs-reach s here are seen outs all a b h (by_one_connection _ _ _ m) = record { by = a; closed = h; joined = m }
@@ -407,7 +410,7 @@ module _ (ends : ℕ → ScopePort → List ScopePort) (body : ℕ → ℕ → O
       let c : y.inner ≡ inner = some_same (sym y.is_body ∙ e) in
       y.lead.no_landing (subst (λ (k : ℕ). Lands ends body k (scope_port owner.Input n)) (sym c) l)
 
-  -- at the end of the search all ports that are seen are gone on from
+  -- at the end, the search has continued at all ports that were seen
   pub goes-all : (s : ℕ) (here : ScopePort → List ScopePort) (are : AreEndsOf ends body short s here) (from : ScopePort) (seen outs : List ScopePort) (at : ℕ) → Goes s here are from seen outs at → length seen ≤ at →
       LeadAlike ends body s here from outs
   goes-all s here are from seen outs at w done n like =

@@ -1,4 +1,4 @@
--- The tests of equality that are derived are those of the definitions.
+-- The derived equality tests agree with those of the definitions.
 use Rattle.std.proofs.Common.{◌≡◌, ◌&&◌, nat_eq, refl, ap}
 use Rattle.click_scopes.specs.declared.written_connections.Owner.{Owner}
 use Rattle.click_scopes.specs.declared.written_connections.Owner.TheVariants as owner

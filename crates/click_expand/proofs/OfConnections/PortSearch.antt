@@ -27,7 +27,7 @@ contains-single : {X : Type 0} (x y : X) → Contains (x ∷ []) y → x ≡ y
 contains-single x y (zero, l, e) = e
 contains-single x y (suc k, l, e) = absurd (omega (arith, l))
 
--- where a part stands
+-- the index of an item
 pub contains-at : {X : Type 0} (xs : List X) (x : X) → Contains xs x → (i : ℕ) × (slice_get xs i ≡ Some x)
 contains-at xs x (k, l, e) = (k, slice_get-get_or xs k x l ∙ ap (λ y. Some y) e)
 
@@ -192,7 +192,8 @@ module _ (instances : List Instance) (indices : List ConnectionIndex) where
       let x = sym e ∙ ap (λ (u : Instance). slice_get indices u.scope) (sym p) ∙ h.index_there in cc x
 
   module _ (primitive_element : ℕ) (origin : InstancePort) where
-    -- A search from an origin has gone on from it, and from the first of the starts that are seen.
+    -- The search has continued from its origin, and from the first `at` of the starts that were
+    -- seen.
     pub record Goes (seen : List InstancePort) (old found : List Connection) (at : ℕ) : Type 0 where
       pub leads : (t : InstancePort) → Contains seen t → (i : FlatInput) → Arrives instances indices t i → Arrives instances indices origin i
       pub gains : Gains (IsFrom instances indices primitive_element origin) old found
@@ -227,7 +228,7 @@ module _ (instances : List Instance) (indices : List ConnectionIndex) where
       from-here : (k : Connection) → IsAtOnce instances indices s primitive_element origin.port.number k → IsFrom instances indices primitive_element origin k
       from-here k h = record { to = h.0; arrives = w.leads s (at-contains a at s there) h.0 (at_once s h.0 h.1); is = h.2 }
 
-      -- a start before the next one is an earlier one, or this one
+      -- a start before the next one is an earlier start, or this one
       earlier : (j : ℕ) (t : InstancePort) → j < at + 1 → slice_get b j ≡ Some t → ((j < at) × (slice_get a j ≡ Some t)) ⊎ (t ≡ s)
       earlier j t l h =
           let within = slice_get_within a at s there in

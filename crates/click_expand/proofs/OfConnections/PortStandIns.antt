@@ -1,4 +1,4 @@
--- Ports that stand in for those that connections lead to, and the index of a scope that has them.
+-- Stand-ins for the ports that connections lead to, and the index of a scope that has them.
 use Rattle.std.proofs.Common.{◌≡◌, ◌⊎◌, inl, inr, ℕ, zero, suc, ◌+◌, ◌<◌, ◌≤◌, List, [], ◌∷◌, ◌++◌, length, get_or, take, Bool, false, cond, Option, Some, None, Contains, refl, sym, ap, ◌∙◌, subst, arith}
 use Rattle.std.specs.Map.{lookup}
 use Rattle.std.specs.List.{slice_get}
@@ -23,12 +23,12 @@ use Rattle.click_expand.proofs.OfConnections.PortEquality.{port-eq}
 use Rattle.click_expand.proofs.OfConnections.ConnectionIndex.{port-exact, port-same, key-at}
 use Rattle.click_expand.proofs.OfConnections.PortSearch.{gains-insert, gains-kept, gains-cases}
 
--- a map at which a value was put, by the test of the definitions
+-- a map after an insertion, by the test of the definitions
 pub changed-by : (old new : List (ScopePort × PortEnds)) (p : ScopePort) (v : PortEnds) → ((q : ScopePort) → lookup (ports.ghosts.eq q) new ≡ cond (ports.ghosts.eq p q) (Some v) (lookup (ports.ghosts.eq q) old)) →
     (q : ScopePort) → lookup (same_port q) new ≡ cond (same_port p q) (Some v) (lookup (same_port q) old)
 changed-by old new p v h q = subst (λ (e : ScopePort → ScopePort → Bool). lookup (e q) new ≡ cond (e p q) (Some v) (lookup (e q) old)) port-eq (h q)
 
--- what ports are at a port once some are put at another: those, or what was there
+-- the ends of a port after an insertion: the new ones, or the old ones
 pub changed-at : (old new : List (ScopePort × PortEnds)) (p : ScopePort) (v : PortEnds) → ((q : ScopePort) → lookup (same_port q) new ≡ cond (same_port p q) (Some v) (lookup (same_port q) old)) → (q : ScopePort) →
     ((q ≡ p) × (ends_in new q ≡ ends_of v)) ⊎ (ends_in new q ≡ ends_in old q)
 changed-at old new p v changed q =
@@ -72,7 +72,8 @@ module _ (ends : ℕ → ScopePort → List ScopePort) (body : ℕ → ℕ → O
       subst (λ xs. AreStoodFor ends body short s xs new) (ap (λ x. take i ps ++ x ∷ []) is ∙ sym (take_more ps i d l)) (stood-push (take i ps) qs new p q h st e)
 
   module _ (raw : List (ScopePort × PortEnds)) where
-    -- Below a place, those at the keys of the old index are stood for. At the other ports nothing is yet.
+    -- The ports that are keys of the old index, at indices below i, have stand-ins in the new one.
+    -- The other ports have none yet.
     pub record Reduces (i : ℕ) (new : List (ScopePort × PortEnds)) : Type 0 where
       pub each : (q : ScopePort) → (ends_in new q ≡ []) ⊎ AreStoodFor ends body short s (ends_in raw q) (ends_in new q)
       pub all : (j : ℕ) (q : ScopePort) (v : PortEnds) → j < i → slice_get raw j ≡ Some (q, v) → AreStoodFor ends body short s (ends_in raw q) (ends_in new q)
@@ -133,7 +134,7 @@ module _ (ends : ℕ → ScopePort → List ScopePort) (body : ℕ → ℕ → O
       pub reduces-all : ((a : ScopePort) → ends s a ≡ ends_in raw a) → AreEndsOf ends body short s (ends_in new)
       reduces-all is a = subst (λ x. AreStoodFor ends body short s x (ends_in new a)) (sym (is a)) (at-port a)
 
--- none of the first elements of a scope stands for a body
+-- none of the first n elements of a scope is a compound
 abbrev pub NoBodies : (ℕ → Option ℕ) → ℕ → Type 0
 NoBodies body n = (i : ℕ) → i < n → body i ≡ None
 
@@ -166,7 +167,7 @@ no-bodies-all scopes s n l h i =
       | inr (inr m) ↦ no-body-past (slice_get scopes s) i (omega (arith, l, m))
     ]
 
--- each port may stand for itself
+-- each port may stand in for itself
 pub stood-same : (ends : ℕ → ScopePort → List ScopePort) (body : ℕ → ℕ → Option ℕ) (short : ℕ → ScopePort → List ScopePort) (s : ℕ) (ps qs : List ScopePort) → ps ≡ qs → AreStoodFor ends body short s ps qs
 stood-same ends body short s ps qs e = record {
   each = λ p h. (p, subst (λ z. Contains z p) e h, same p);

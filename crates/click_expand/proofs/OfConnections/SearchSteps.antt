@@ -1,4 +1,5 @@
--- The steps of a search are the connections as written: what a search finds are the connections of the flat elements.
+-- The steps of a search are the written connections, so that a search finds the connections of the
+-- flat elements.
 use Rattle.std.proofs.Common.{◌≡◌, ℕ, ◌<◌, zero, suc, List, [], ◌∷◌, ◌++◌, Option, Some, None, Contains, refl, sym, ap, ◌∙◌, subst, arith}
 use Rattle.std.specs.List.{slice_get}
 use Rattle.std.proofs.lemmas.Option.{slice_get_within}
@@ -37,7 +38,7 @@ use Rattle.click_expand.proofs.OfConnections.ConnectionIndex.{index-at}
 use Rattle.click_expand.proofs.OfConnections.Chains.{some_same, push-not-nil, push-same, at-some, written_connection-of, kept-of, Denotes, Ends, denotes-same, apart, path-same, denotes-once, leads-stands, names-apart, leads-once, no-scope, nothing-behind, nothing-out, written_connection-begins, written_connection-ends}
 
 module _ (c : Config) (nested : IsNested c) (sound : IsFaultless c) (instances : List Instance) (places : List Place) (known : List KnownInstance) (primitive_elements : List PrimitiveElement) (are : AreInstances c instances places known primitive_elements) where
-  -- an instance at its place, as the code keeps it and in the words of the definitions
+  -- the instance at an index: its stored form, and its form in the definitions
   pub record IsAt (u : ℕ) (k : Instance) (x : KnownInstance) : Type 0 where
     pub kept : slice_get instances u ≡ Some k
     pub used : slice_get known u ≡ Some x
@@ -50,7 +51,7 @@ module _ (c : Config) (nested : IsNested c) (sound : IsFaultless c) (instances :
   at-both u k x e f =
       let r = at-kept u k e in subst (IsAt u k) (some_same (sym r.1.used ∙ f)) r.1
 
-  -- the flat element that is a part of an instance
+  -- a flat element that is a part of an instance
   pub record IsPrimitiveElementAt (x : KnownInstance) (l : ScopeElement) (n : ℕ) : Type 0 where
     pub primitive_element : PrimitiveElement
     pub there : slice_get primitive_elements n ≡ Some primitive_element
@@ -72,7 +73,7 @@ module _ (c : Config) (nested : IsNested c) (sound : IsFaultless c) (instances :
         meaning = meaning;
       }
 
-  -- the instance that is a part of an instance
+  -- an instance that is a part of an instance
   inner-part : (u : ℕ) (k : Instance) (x : KnownInstance) → IsAt u k x → (i : ℕ) (l : ScopeElement) → slice_get (scope_elements_at c x) i ≡ Some l → (v : ℕ) → IsPart instances places u i l (part.Inner v) →
       (kv : Instance) × (y : KnownInstance) × IsAt v kv y × (y.path ≡ x.path ++ l.name ∷ [])
   inner-part u k x h i l there v (b, meaning, (kv, kept, (p, enclosing, within, element))) =
@@ -91,14 +92,14 @@ module _ (c : Config) (nested : IsNested c) (sound : IsFaultless c) (instances :
       let r = h.is.own p e in
       (r.0, a.1.0, at-both p.within r.0 a.1.0 r.1 a.1.1, a.1.2)
 
-  -- a start of a search is that end of connections
+  -- the start of a search is this node
   pub record IsStart (s : InstancePort) (n : Node) : Type 0 where
     pub kept : Instance
     pub used : KnownInstance
     pub at : IsAt s.within kept used
     pub denotes : Denotes (scope_elements_at c used) used.path s.port.owner s.port.number n
 
-  -- what a step leads to is that end
+  -- the result of a step is this node
   abbrev pub Lies : Reached → Node → Type 0
   Lies (next.Start t) n = IsStart t n
   Lies (next.PrimitiveElement i) n = (f : PrimitiveElement) × (slice_get primitive_elements i.primitive_element ≡ Some f) × (n ≡ input_of f.path i.number)
@@ -126,7 +127,7 @@ module _ (c : Config) (nested : IsNested c) (sound : IsFaultless c) (instances :
       let r = h.is.parts.each i e.0 e.1 in
       subst (λ a. Lies (inward a p) n) (sym r.1) (lies-in u k x h i e.0 e.1 r.0 r.2 p n e.2)
 
-  -- an instance has one place: its path leads to no other
+  -- an instance has one index: its path leads to no other
   once-by : (u v : ℕ) (k m : Instance) (x y : KnownInstance) → IsAt u k x → IsAt v m y → x.path ≡ y.path →
       ((a b : ℕ) (ka kb : Instance) (xa xb : KnownInstance) → a < u → IsAt a ka xa → IsAt b kb xb → xa.path ≡ xb.path → a ≡ b) → (p q : Option Place) → k.enclosing ≡ p → m.enclosing ≡ q → u ≡ v
   once-by u v k m x y h g e ih None None s t =
@@ -158,7 +159,7 @@ module _ (c : Config) (nested : IsNested c) (sound : IsFaultless c) (instances :
   use-once : (u v : ℕ) (k m : Instance) (x y : KnownInstance) → IsAt u k x → IsAt v m y → x.path ≡ y.path → u ≡ v
   use-once u v k m x y h g e = use-below (suc u) u v k m x y (omega arith) h g e
 
-  -- where a primitive element stands
+  -- where a flat element is
   pub record IsPrimitiveElementIn (f : PrimitiveElement) (n : ℕ) : Type 0 where
     pub within : ℕ
     pub element : ℕ
@@ -193,12 +194,12 @@ module _ (c : Config) (nested : IsNested c) (sound : IsFaultless c) (instances :
         meaning = w.meaning;
       }
 
-  -- a primitive element's path leads to no scope
+  -- the path of a flat element leads to no scope
   primitive_element-no-scope : (n : ℕ) (f : PrimitiveElement) → IsPrimitiveElementIn f n → (t : Scope) (w : List Statement) → LeadsTo c f.path t w → ⊥
   primitive_element-no-scope n f h t w k =
       no-scope c nested sound h.used.path h.used.scope h.used.visible h.element h.scope_element h.class h.at.is.leads h.scope_element_there h.meaning f.path t w k h.path
 
-  -- two primitive elements of one path are one
+  -- two flat elements with the same path are the same
   primitive_element-once : (n m : ℕ) (f g : PrimitiveElement) → IsPrimitiveElementIn f n → IsPrimitiveElementIn g m → f.path ≡ g.path → n ≡ m
   primitive_element-once n m f g h k e =
       let s = push-same h.used.path k.used.path h.scope_element.name k.scope_element.name (sym h.path ∙ e ∙ k.path) in
@@ -211,7 +212,7 @@ module _ (c : Config) (nested : IsNested c) (sound : IsFaultless c) (instances :
       cc z
 
   module _ (all : List ScopeKept) (kept_all : AreAllScopes c all) (indices : List ConnectionIndex) (indexed : AreIndices all indices) where
-    -- a step of a search is a connection as written
+    -- a step of a search is a written connection
     step-sound : (s : InstancePort) (n : Reached) (a : Node) → StepsTo instances indices s n → IsStart s a → (b : Node) × Leads c a b × Lies n b
     step-sound s n a st h =
         let x = h.used in
@@ -242,7 +243,7 @@ module _ (c : Config) (nested : IsNested c) (sound : IsFaultless c) (instances :
         let r = step-sound s (next.Start t) a st h in
         let q = arrives-sound t i r.0 w r.2 in (q.0, q.1, further a r.0 (input_of q.0.path i.number) r.1 q.2)
 
-    -- a connection as written that begins at a start is a step of a search
+    -- a written connection from a start is a step of a search
     step-complete : (s : InstancePort) (path : List (List ℕ)) (sc : Scope) (v : List Statement) (j : WrittenConnection) → LeadsTo c path sc v → Contains (scope_connections c sc v) j →
         IsStart s (begin_node path j.from j.from.role j.out_port) → (n : Reached) × StepsTo instances indices s n × Lies n (end_node path j.to j.to.role j.in_port)
     step-complete s path sc v j to m h =
@@ -310,7 +311,7 @@ module _ (c : Config) (nested : IsNested c) (sound : IsFaultless c) (instances :
         absurd (nothing-behind c nested sound l.0.path i.number (λ t v. primitive_element-no-scope i.primitive_element l.0 (primitive_element-in i.primitive_element l.0 l.1) t v) b d x l.2)
     go-on s next.Nothing b d w l x f = absurd (nothing-out c nested sound l.0 b d x l.1)
 
-    -- a chain of connections as written is followed step by step
+    -- a chain of written connections is followed step by step
     follows : (a b : Node) → Leads c a b → (s : InstancePort) → IsStart s a → (n : Reached) × Comes s n × Lies n b
     follows _ _ (by_connection path sc v j to m) s h =
         let r = step-complete s path sc v j to m h in (r.0, once s r.0 r.1, r.2)

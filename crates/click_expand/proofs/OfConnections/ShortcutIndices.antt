@@ -1,4 +1,4 @@
--- Shortcuts in the index of a scope, and the indices of all scopes with theirs.
+-- The shortcuts in the index of a scope, and the indices of all scopes with their shortcuts.
 use Rattle.std.proofs.Common.{◌≡◌, ◌⊎◌, inl, inr, ℕ, ◌+◌, ◌<◌, zero, suc, List, [], ◌∷◌, ◌++◌, length, get_or, take, cond, nat_eq, Option, Some, Contains, refl, sym, ap, ◌∙◌, subst, append_assoc, arith}
 use Rattle.std.specs.Map.{lookup}
 use Rattle.std.specs.List.{slice_get}
@@ -26,7 +26,7 @@ contains-cons x xs y (zero, l, e) = inl e
 contains-cons x xs y (suc k, l, e) = inr (k, omega (arith, l), e)
 
 module _ (old : List (ScopePort × PortEnds)) (all : List Shortcut) where
-  -- each port's ends are as they were, or the outputs of a shortcut from there
+  -- a port has its old ends, or the outputs of a shortcut from it
   abbrev IsOldOrShort : List (ScopePort × PortEnds) → ScopePort → Type 0
   IsOldOrShort new a = (ends_in new a ≡ ends_in old a) ⊎ ((k : Shortcut) × Contains all k × (a ≡ k.from) × (ends_in new a ≡ k.outputs.items))
 
@@ -34,7 +34,7 @@ module _ (old : List (ScopePort × PortEnds)) (all : List Shortcut) where
   abbrev IsPut : List (ScopePort × PortEnds) → Shortcut → Type 0
   IsPut new k = (j : Shortcut) × Contains all j × (k.from ≡ j.from) × (ends_in new k.from ≡ j.outputs.items)
 
-  -- All shortcuts are put into an index, but for those that are left.
+  -- All shortcuts except those that are left are in the index.
   pub record Puts (left : List Shortcut) (new : List (ScopePort × PortEnds)) : Type 0 where
     pub each : (a : ScopePort) → IsOldOrShort new a
     pub gone : List Shortcut
@@ -84,7 +84,7 @@ puts-all old new found left entries h none is alike =
 
 module _ (ends : ℕ → ScopePort → List ScopePort) (body : ℕ → ℕ → Option ℕ) (short : ℕ → ScopePort → List ScopePort) where
   module _ (s : ℕ) (old new : ConnectionIndex) (found : ScopeShortcuts) (h : HasShortcuts old found new) (f : AreFound ends body s (ends_in old.ends.entries) found) (is : (a : ScopePort) → short s a ≡ ends_in new.ends.entries a) where
-    -- where a shortcut is put, an input with the ends of its port leads through the scope
+    -- if a port has a shortcut, each input with the same ends leads to the outputs of the shortcut
     leads : (a : ScopePort) (n : ℕ) (j : Shortcut) → Contains found.shortcuts.items j → ends_in old.ends.entries (scope_port owner.Input n) ≡ ends_in old.ends.entries j.from → ends_in new.ends.entries a ≡ j.outputs.items → LeadsThrough ends body s n (short s a)
     leads a n j m e put = subst (LeadsThrough ends body s n) (sym (is a ∙ put)) ((f.shortcuts j m).1 n e)
 
@@ -130,11 +130,12 @@ module _ (ends : ℕ → ScopePort → List ScopePort) (body : ℕ → ℕ → O
       ];
     }
 
--- below a place, these are the ends that the indices have
+-- `ends` has the ends of the indices, for the scopes that have one
 abbrev pub AreEndsBelow : List ConnectionIndex → (ℕ → ScopePort → List ScopePort) → Type 0
 AreEndsBelow xs ends = (s : ℕ) (a : ScopePort) → s < length xs → ends s a ≡ ends_at xs s a
 
--- The indices of scopes with their shortcuts. What is known of these holds whatever the further scopes lead to.
+-- The indices of scopes with their shortcuts. What holds of these does not depend on the further
+-- scopes.
 pub record AreAllShortened (body : ℕ → ℕ → Option ℕ) (scopes : List ScopeKept) (xs : List ConnectionIndex) : Type 0 where
   pub whole : List ConnectionIndex
   pub are : AreIndices scopes whole

@@ -1,4 +1,4 @@
--- The shortcuts of a scope as they are found, and the inputs that are like those found before.
+-- The shortcuts that are found in a scope, and the inputs that are like those found before.
 use Rattle.std.proofs.Common.{◌≡◌, ◌⊎◌, inl, inr, ℕ, List, [], ◌∷◌, ◌++◌, Bool, true, false, nat_eq, cond, Option, Some, None, Vec, Global, Contains, refl, sym, ap, ◌∙◌, subst, arith}
 use Rattle.std.specs.Map.{lookup}
 use Rattle.std.proofs.lemmas.Bool.{eqb-true}
@@ -19,7 +19,7 @@ only-is [] p h = absurd (cc h)
 only-is (q ∷ []) p h = ap (λ x. x ∷ []) (sym (some_same h))
 only-is (q ∷ r ∷ ps) p h = absurd (cc h)
 
--- what a map has at a key after a write
+-- the value of a map at a key after an insertion
 written : {X : Type 0} (t : Bool) (new old : Option X) (x y : X) → new ≡ cond t (Some x) old → new ≡ Some y → ((t ≡ true) × (y ≡ x)) ⊎ (old ≡ Some y)
 written true new old x y e h = inl (refl, some_same (sym h ∙ e))
 written false new old x y e h = inr (sym e ∙ h)
@@ -73,7 +73,7 @@ module _ (ends : ℕ → ScopePort → List ScopePort) (body : ℕ → ℕ → O
         alike = λ n k h. kept (scope_port owner.Input n) k (are.alike n k (ap (λ a. lookup (nat_eq n) a.entries) (sym alike) ∙ h));
       }
 
-      -- a shortcut is added, from a port with one end
+      -- a shortcut from a port with one end is added
       pub found-first : (end : ScopePort) → Some end ≡ only (here from) →
           ((q : ScopePort) → lookup (same_port q) new.firsts.entries ≡ cond (same_port end q) (Some from.number) (lookup (same_port q) old.firsts.entries)) → new.alike ≡ old.alike → AreFound ends body s here new
       found-first end one firsts alike =
@@ -82,7 +82,7 @@ module _ (ends : ℕ → ScopePort → List ScopePort) (body : ℕ → ℕ → O
             | inr o ↦ inr o
           ]) alike
 
-      -- from another port
+      -- a shortcut from any other port is added
       pub found-other : new.firsts ≡ old.firsts → new.alike ≡ old.alike → AreFound ends body s here new
       found-other firsts alike = found-with (λ p k h. inr (ap (λ m. lookup (same_port p) m.entries) (sym firsts) ∙ h)) alike
 
@@ -104,7 +104,7 @@ module _ (ends : ℕ → ScopePort → List ScopePort) (body : ℕ → ℕ → O
         likes : (p : ScopePort) (k : ℕ) → IsLike here old.shortcuts.items p k → IsLike here new.shortcuts.items p k
         likes p k h = subst (λ (v : Vec Shortcut Global). IsLike here v.items p k) (sym shortcuts) h
 
--- a number that was found at the one end of a port
+-- an input that was found at the only end of a port
 pub like-first : (ends : ℕ → ScopePort → List ScopePort) (body : ℕ → ℕ → Option ℕ) (s : ℕ) (here : ScopePort → List ScopePort) (found : ScopeShortcuts) (from end : ScopePort) (k : ℕ) → AreFound ends body s here found →
     Some end ≡ only (here from) → lookup (same_port end) found.firsts.entries ≡ Some k → IsLike here found.shortcuts.items from k
 like-first ends body s here found from end k are one at = are.firsts end k at from (only-is (here from) end one)

@@ -1,4 +1,4 @@
--- A search over the shortened connections finds what one over those as written does.
+-- A search over the shortened connections finds what a search over the written ones finds.
 use Rattle.std.proofs.Common.{◌≡◌, ◌⊎◌, ◌↔◌, inl, inr, ℕ, zero, suc, List, length, Option, Some, None, Contains, refl, sym, ap, ◌∙◌, subst, arith}
 use Rattle.std.specs.List.{slice_get}
 use Rattle.std.proofs.lemmas.Option.{slice_get_within}
@@ -20,7 +20,7 @@ use Rattle.click_expand.proofs.OfConnections.Chains.{some_same}
 
 module _ (instances : List Instance) where
   module _ (ends : ℕ → ScopePort → List ScopePort) (i : FlatInput) where
-    -- from what lies behind a port, that input is reached in so many steps or fewer
+    -- the input i is reached from there in at most n steps
     abbrev Reaches : ℕ → Reached → Type 0
     Reaches n next.Nothing = ⊥
     Reaches n (next.PrimitiveElement j) = j ≡ i
@@ -37,7 +37,7 @@ module _ (instances : List Instance) where
     reaches-more (suc n) (next.Start s) h = (h.0, h.1, h.2, h.3, reaches-more n (reached_by h.0 h.2.owner h.2.number) h.4)
 
   module _ (body : ℕ → ℕ → Option ℕ) (nested : AreNested body instances) where
-    -- the instance of that body at an element of an instance
+    -- the instance of that body, at an element of an instance
     record IsInside (u e inner : ℕ) (k : Instance) : Type 0 where
       pub place : ℕ
       pub kept : Instance
@@ -66,7 +66,7 @@ module _ (instances : List Instance) where
         let r = nested.part u e inner k there is_body in inside-part u e r.0 k there r.1 inner is_body
 
     module _ (ends : ℕ → ScopePort → List ScopePort) (i : FlatInput) where
-      -- a run in an instance is followed step by step
+      -- connections inside an instance are followed step by step
       runs-reach : (s : ℕ) (a b : ScopePort) → LeadsInScope ends body s a b → (u : ℕ) (k : Instance) → slice_get instances u ≡ Some k → k.scope ≡ s →
           ReachesIn ends i (reached_by k b.owner b.number) → ReachesIn ends i (next.Start (instance_port u a))
       runs-reach _ _ _ (by_one_connection s a b c) u k there e h = (suc h.0, (k, there, b, subst (λ z. Contains (ends z a) b) (sym e) c, h.1))
@@ -83,11 +83,11 @@ module _ (instances : List Instance) where
       lands-over _ _ (inside_compound s j k d b r some l) e n inner m a is before there through =
           inside_compound s j k d a (over s e n inner m a (scope_port (owner.Element j) k) before there through (subst (λ z. LeadsInScope ends body s z (scope_port (owner.Element j) k)) is r)) some l
 
-      -- a way to an input leads out of an instance at one of its outputs
+      -- the way to an input leaves an instance at one of its outputs
       abbrev PrimitiveElements : ℕ → Instance → ScopePort → Type 0
       PrimitiveElements n k a = (m : ℕ) × LeadsInScope ends body k.scope a (scope_port owner.Output m) × Reaches ends i n (outward k.enclosing m)
 
-      -- or ends in it
+      -- the way to an input ends in an instance, or leaves it
       abbrev Parts : ℕ → Instance → ScopePort → Type 0
       Parts n k a = Lands ends body k.scope a ⊎ PrimitiveElements n k a
 
@@ -139,13 +139,14 @@ module _ (instances : List Instance) where
       parts-within zero u k a there h = absurd h
       parts-within (suc n) u k a there h = parts-more n k a (parts n u k a there h)
 
-      -- where connections lead through an instance from there, the way goes out of it
+      -- from a pass-through input of an instance, the way leaves the instance
       goes-out-through : (n : ℕ) (k : Instance) (q : ℕ) (outs : List ScopePort) → LeadsThrough ends body k.scope q outs → Parts n k (scope_port owner.Input q) → PrimitiveElements n k (scope_port owner.Input q)
       goes-out-through n k q outs l (inl h) = absurd (l.no_landing h)
       goes-out-through n k q outs l (inr h) = h
 
     module _ (ends short : ℕ → ScopePort → List ScopePort) (i : FlatInput) where
-      -- the way from a port goes out of the instance that others lead through alike
+      -- the way from an input leaves the instance if it does from an input that leads to the same
+      -- outputs
       sound-alike : (n u x inner : ℕ) (k : Instance) (w : IsInside u x inner k) (number other : ℕ) → LeadsThrough ends body w.kept.scope number (short w.kept.scope (scope_port owner.Input other)) →
           ((m : Reached) → Reaches short i n m → ReachesIn ends i m) → Reaches short i n (next.Start (instance_port w.place (scope_port owner.Input other))) →
           ReachesIn ends i (next.Start (instance_port w.place (scope_port owner.Input number)))
@@ -225,7 +226,7 @@ module _ (instances : List Instance) where
       sound is zero (next.Start s) h = absurd h
       sound is (suc n) (next.Start s) h = sound-step n s.within h.0 s.port h.1 (λ m r. sound is n m r) (is h.0.scope s.port h.2 h.3) h.2 h.3 h.4
 
-  -- the index of a scope from which connections lead on
+  -- the index of a scope, for a port with ends
   index-of : (xs : List ConnectionIndex) (s : ℕ) (a p : ScopePort) → Contains (ends_at xs s a) p → (x : ConnectionIndex) × (slice_get xs s ≡ Some x) × Contains (ends_in x.ends.entries a) p
   index-of xs s a p c = by (slice_get xs s) refl c
     where

@@ -14,7 +14,7 @@ use Rattle.click_expand.proofs.OfFlatText.NameWords.{IsName}
 abbrev IsWordTest : List ℕ → Bool
 IsWordTest w = is_word w && (not (list_all digit w) && (not (bytes_eq w (codes "elementclass")) && not (bytes_eq w (codes "require"))))
 
--- by computing it for each class
+-- each name of a class is a word, by computation
 class_passes : (c : Class) → IsWordTest (name c) ≡ true
 class_passes class.Queue = refl
 class_passes _ = refl

@@ -1,4 +1,4 @@
--- The flat form of a configuration of such lines alone.
+-- The flat form of a configuration that consists of the lines of a flat form (`Lines`).
 use Rattle.std.proofs.Common.{◌≡◌, ℕ, zero, suc, ◌+◌, ◌<◌, ◌≤◌, List, [], ◌∷◌, ◌++◌, length, map, true, Some, refl, sym, ◌∙◌, ap, arith}
 use Rattle.std.specs.Prelude.{Contains, slice_get, sum_by}
 use Rattle.std.specs.List.{AllByRecursion}
@@ -24,7 +24,7 @@ use Rattle.click_expand.proofs.OfFlatText.TextItems.{items_of, items_bytes, repl
 use Rattle.click_expand.proofs.OfFlatText.LineScope.{names, AreScopeElements, no_scope_elements, first_scope_element, scope_elements_are, plain_none}
 use Rattle.click_expand.proofs.OfFlatText.LineSoundness.{config_of, at_split, contains_first, IsWrittenConnectionOf, AreWrittenConnections, no_written_connections, first_written_connection, Says, says, one_sound}
 
--- a primitive element of the one scope
+-- a flat element of the only scope
 pub record IsPrimitiveElementOf (e : FlatElement) (l : PrimitiveElement) : Type 0 where
   pub path : l.path ≡ e.name ∷ []
   pub class : l.class ≡ e.class
@@ -71,7 +71,7 @@ pub elements_are : {es : List FlatElement} {ls : List PrimitiveElement} → AreP
 elements_are no_primitive_elements = refl
 elements_are (first_primitive_element e es l ls h a) = let x = one_element e l h in let y = elements_are a in cc
 
--- what holds of primitive elements, by their elements
+-- properties of flat elements, by their elements
 abbrev pub element_sizes : List FlatElement → ℕ
 element_sizes es = sum_by (λ (e : FlatElement). length e.text) es
 
@@ -97,7 +97,7 @@ pub whole_elements : (ls : List PrimitiveElement) → AllByRecursion (λ (l : Pr
 whole_elements [] a = tt
 whole_elements (l ∷ ls) a = (a.0, whole_elements ls a.1)
 
--- places
+-- indices
 primitive_element_at : {es : List FlatElement} {ls : List PrimitiveElement} → ArePrimitiveElementsOf es ls → (i : ℕ) → i < length es → (l : PrimitiveElement) × (slice_get ls i ≡ Some l) × (l.path ≡ name_at_place es i ∷ [])
 primitive_element_at no_primitive_elements i h = absurd (omega arith)
 primitive_element_at (first_primitive_element e es l ls h a) zero i = (l, refl, h.path)
@@ -116,7 +116,7 @@ contains_name [] i h = absurd (omega arith)
 contains_name (e ∷ es) zero h = contains_first e.name (names es)
 contains_name (e ∷ es) (suc i) h = contains_more e.name (names es) (name_at_place es i) (contains_name es i (omega arith))
 
--- distinct names stand at one place each
+-- distinct names have one index each
 distinct_at : (es : List FlatElement) (i j : ℕ) → AreDistinct (names es) → i < length es → j < length es → name_at_place es i ≡ name_at_place es j → i ≡ j
 distinct_at [] i j d h k e = absurd (omega arith)
 distinct_at (x ∷ es) zero zero d h k e = refl
@@ -124,7 +124,7 @@ distinct_at (x ∷ es) zero (suc j) d h k e = absurd (d.0 (rw e (contains_name e
 distinct_at (x ∷ es) (suc i) zero d h k e = absurd (d.0 (rw (← e) (contains_name es i (omega arith))))
 distinct_at (x ∷ es) (suc i) (suc j) d h k e = ap (λ (n : ℕ). suc n) (distinct_at es i j d.1 (omega arith) (omega arith) e)
 
--- written connections and connections
+-- written connections, and connections
 all_weaker : {X : Type 0} (P Q : X → Type 0) → ((x : X) → P x → Q x) → (xs : List X) → AllByRecursion P xs → AllByRecursion Q xs
 all_weaker P Q f [] a = tt
 all_weaker P Q f (x ∷ xs) a = (f x a.0, all_weaker P Q f xs a.1)
@@ -231,7 +231,7 @@ joins_only {c} {all} {ks} h p d a k j =
     let e : k ≡ w.wire = same_connection k w.wire from (cc) to (cc) in
     rw e w.there
 
--- what a flat form has of itself, apart from the configuration that it is of
+-- what holds of a flat form by itself, whatever its configuration
 pub record IsItself (f : Flat) : Type 0 where
   pub distinct : AreDistinct (names f.elements)
   pub texts : AllByRecursion IsWholeText f.elements

@@ -1,4 +1,5 @@
--- A configuration of such lines alone: one scope, whose elements are all declared and of the router's classes.
+-- A configuration that consists of the lines of a flat form (`Lines`) has one scope. Its elements
+-- are all declared and of the router's classes.
 use Rattle.std.proofs.Common.{◌≡◌, ℕ, zero, suc, ◌+◌, ◌<◌, List, [], ◌∷◌, length, map, true, false, Some, None, refl, ◌∙◌, ap, arith}
 use Rattle.std.specs.Str.{bytes_eq}
 use Rattle.std.proofs.lemmas.Bool.{or_left, or_right}
@@ -24,7 +25,7 @@ use Rattle.click_expand.proofs.OfFlatText.Lines.{element_statement, connection_s
 abbrev pub names : List FlatElement → List (List ℕ)
 names es = map (λ (e : FlatElement). e.name) es
 
--- no class is defined after these statements
+-- no class is defined by these statements
 abbrev pub IsPlain : List ℕ → List Statement → Type 0
 IsPlain text visible = (w : List ℕ) → meaning text visible w ≡ primitive_of w
 
@@ -50,7 +51,7 @@ has_at [] i h = absurd (omega arith)
 has_at (e ∷ es) zero h = or_left _ _ (bytes_same e.name)
 has_at (e ∷ es) (suc i) h = or_right _ _ (has_at es i (omega arith))
 
--- a word of a connection's line means the element that is declared
+-- a word in the line of a connection means the declared element
 pub word_refers : (text : List ℕ) (all : List FlatElement) (s : Span) (i : ℕ) → i < length all → bytes_at text s ≡ name_at_place all i →
     role text false (names all) (element (head.Word s) None) ≡ refers
 word_refers text all s i h e = rw (e, has_at all i h) refl

@@ -1,4 +1,4 @@
--- In a configuration of such lines alone nothing is wrong.
+-- A configuration that consists of the lines of a flat form (`Lines`) has no misuse.
 use Rattle.std.proofs.Common.{◌≡◌, inl, inr, ℕ, ◌+◌, ◌<◌, List, [], ◌∷◌, ◌++◌, length, map, true, false, Some, None, refl, sym, ap, subst, arith}
 use Rattle.std.specs.Prelude.{Contains}
 use Rattle.std.specs.List.{AllByRecursion}
@@ -27,7 +27,7 @@ use Rattle.click_expand.specs.FlatText.{name_at_place}
 use Rattle.click_expand.proofs.OfFlatText.Lines.{element_statement, connection_statement, AreLines, no_lines, first_connection, first_element}
 use Rattle.click_expand.proofs.OfFlatText.LineScope.{names, IsPlain, plain_none, plain_more, declared_are, word_refers, class_known}
 
--- the configuration of these statements
+-- the configuration with these statements
 abbrev pub config_of : List ℕ → List Statement → Config
 config_of text ss = record { text = text; statements = ss; bodies = [] }
 
@@ -36,7 +36,7 @@ at_split P xs [] after x a e = let b : AllByRecursion P (x ∷ after) = rw e at 
 at_split P [] (y ∷ before) after x a e = cc
 at_split P (z ∷ xs) (y ∷ before) after x a e = let f : xs ≡ before ++ x ∷ after = cc in at_split P xs before after x a.1 f
 
--- each statement is a chain without bodies
+-- the statement is a chain without bodies
 pub record IsLine (st : Statement) : Type 0 where
   pub bodies : bodies_in st ≡ []
   pub no_synonym : (n c : Span) → st ≡ statement.Synonym n c → ⊥
@@ -56,7 +56,7 @@ only_whole {c} h (nested s visible enclosing before after st b stands e k) =
     let c : Contains [] b = rw l.bodies at k in
     absurd (omega (arith, c.1))
 
--- what an element of such lines is
+-- a written element in these lines: declared with its class, or named in a connection
 pub data IsMade (text : List ℕ) (declared : List (List ℕ)) (p : Placed) : Type 0 where
   made : (s w : Span) (v : Class) → p.element.head ≡ head.Declared s (class.Named w) → element_meaning text p ≡ Some (primitive v) → IsMade text declared p
   named : (s : Span) → p.element.head ≡ head.Word s → p.element.text ≡ None → role text false declared p.element ≡ refers → IsMade text declared p
@@ -100,7 +100,7 @@ once (x ∷ xs) ys y d h = elim (or_cases (bytes_eq y x) (has_name y xs) h) [
   | inr e ↦ once xs ys y d.1 e
 ]
 
--- no joined end is one of a compound
+-- no end of a connection belongs to a compound
 pub no_compound : {text : List ℕ} {all es : List FlatElement} {ks : List Connection} {ss : List Statement} (visible : List Statement) (name : List ℕ) (b : ℕ) → IsPlain text visible →
     AreLines text all es ks ss → declared_meaning text (placed visible ss) name ≡ Some (compound b) → ⊥
 no_compound visible name b v no_lines h = cc
@@ -158,7 +158,7 @@ written_connections_ends : {all : List FlatElement} {ks : List Connection} {js :
 written_connections_ends no_written_connections = tt
 written_connections_ends (first_written_connection k ks j js h a) = ((k, h), written_connections_ends a)
 
--- what such a configuration says in its one scope
+-- what holds of the only scope of a configuration that consists of these lines
 pub record Says (c : Config) (all : List FlatElement) (ks : List Connection) : Type 0 where
   pub bodyless : AllByRecursion IsLine c.statements
   pub written : AllByRecursion (IsMade c.text (names all)) (scope_placed c whole [])
@@ -216,7 +216,7 @@ no_pseudo w n e h p = let g : false ≡ true = rw h.role at p in false≢true g
 no_body : {c : Config} {b : ℕ} {visible : List Statement} {enclosing : List Scope} → AllByRecursion IsLine c.statements → Stands c (inside b) visible enclosing → ⊥
 no_body h s = let i = only_whole h s in cc
 
--- an element of the one scope
+-- an element of the only scope
 made_in : (c : Config) (all : List FlatElement) (ks : List Connection) → Says c all ks → (s : Scope) (visible : List Statement) (enclosing : List Scope) (front back : List Placed) (p : Placed) →
     Stands c s visible enclosing → scope_placed c s visible ≡ front ++ p ∷ back → IsMade c.text (names all) p
 made_in c all ks h s visible enclosing front back p t e =

@@ -1,4 +1,4 @@
--- The lines of a flat form's text as statements.
+-- The lines of a flat form's text, as statements.
 use Rattle.std.proofs.Common.{◌≡◌, ℕ, ◌<◌, List, [], ◌∷◌, length, Option, None}
 use Rattle.click_base.specs.Classes.{name as class_name}
 use Rattle.click_text.specs.declared.syntax.Span.{Span}
@@ -20,13 +20,13 @@ element_statement s w o = chain (element (head.Declared s (class.Named w)) o) []
 abbrev pub connection_statement : Span → Span → Option WrittenPort → Option WrittenPort → Statement
 connection_statement s t p q = chain (element (head.Word s) None) (link p q (element (head.Word t) None) ∷ [])
 
--- the spans of an element's line
+-- the spans in the line of an element
 pub record IsDeclared (text : List ℕ) (e : FlatElement) (s w : Span) (o : Option Span) : Type 0 where
   pub name : bytes_at text s ≡ e.name
   pub class : bytes_at text w ≡ class_name e.class
   pub string : string_or_empty text o ≡ e.text
 
--- the spans of a connection's line
+-- the spans in the line of a connection
 pub record IsJoined (text : List ℕ) (all : List FlatElement) (k : Connection) (s t : Span) (p q : Option WrittenPort) : Type 0 where
   pub from_there : k.from < length all
   pub to_there : k.to < length all
@@ -35,7 +35,7 @@ pub record IsJoined (text : List ℕ) (all : List FlatElement) (k : Connection) 
   pub out_port : port_number p ≡ k.out_port
   pub in_port : port_number q ≡ k.in_port
 
--- the statements of lines for these elements and connections, whose ends are among all elements
+-- the statements of the lines for these elements and connections, whose ends are among all elements
 pub data AreLines (text : List ℕ) (all : List FlatElement) : List FlatElement → List Connection → List Statement → Type 0 where
   no_lines : AreLines text all [] [] []
   first_connection : (k : Connection) (ks : List Connection) (s t : Span) (p q : Option WrittenPort) (ss : List Statement) → IsJoined text all k s t p q →

@@ -1,4 +1,4 @@
--- Names of elements are words that are no number and no keyword.
+-- The names of elements are words that are neither numbers nor keywords.
 use Rattle.std.proofs.Common.{◌≡◌, ℕ, zero, suc, ◌+◌, ◌<◌, ◌/◌, ◌%◌, List, [], ◌∷◌, ◌++◌, true, false, eqb, refl, sym, ◌∙◌, arith, inl, inr, append_assoc}
 use Rattle.std.specs.Prelude.{decimal, codes, ◌==◌}
 use Rattle.std.specs.List.{list_all, list_any, AllByRecursion}
@@ -16,7 +16,7 @@ use Rattle.click_expand.specs.Flat.{flat_name}
 abbrev pub IsName : List ℕ → Type 0
 IsName n = IsPiece piece.Word n
 
--- a word with a byte in it that no digit and no keyword has
+-- a byte that is in no number and in no keyword
 abbrev IsOdd : ℕ → Type 0
 IsOdd b = (digit b ≡ false) × (eqb b b ≡ true) × (list_any (eqb b) (codes "elementclass") ≡ false) × (list_any (eqb b) (codes "require") ≡ false)
 

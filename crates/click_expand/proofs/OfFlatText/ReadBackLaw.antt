@@ -15,7 +15,7 @@ use Rattle.click_expand.proofs.OfFlatText.LineFlatForm.{IsItself, IsWholeText, e
 use Rattle.click_expand.proofs.OfFlatText.WellFormedFlat.{IsRight, spelled_right, all_map, all_weaker, RightPrimitiveElement, RightConnection, flat_primitive_elements, flat_connections}
 use Rattle.click_expand.proofs.OfFlatText.TextTokens.{IsWordy, IsWritable, read_text}
 
--- a flat form's own facts
+-- what holds of a flat form by itself
 own : (c : Config) (f : Flat) → IsFlat c f → IsItself f
 own c f h =
     let ls = h.primitive_elements in

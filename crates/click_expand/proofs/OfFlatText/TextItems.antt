@@ -1,4 +1,4 @@
--- Each text has items, and without parameters to replace they give its bytes back.
+-- Every text has items, and their bytes are the text if no parameter has a value.
 use Rattle.std.proofs.Common.{◌≡◌, ◌⊎◌, inl, inr, ℕ, zero, suc, ◌<◌, ◌≤◌, List, [], ◌∷◌, ◌++◌, length, take, drop, Bool, true, false, eqb, Option, Some, None, refl, sym, ◌∙◌, ap, arith, length-drop}
 use Rattle.std.specs.Prelude.{if◌then◌else◌}
 use Rattle.std.specs.List.{list_all}
@@ -130,7 +130,7 @@ items_within (suc fuel) (x ∷ r) l =
     let m = items_within fuel (drop g.size (x ∷ r)) (omega (arith, length-drop g.size (x ∷ r))) in
     (item g.kind (take g.size (x ∷ r)) ∷ m.0, next (x ∷ r) g.kind g.size m.0 g.longest m.1)
 
--- each text has items
+-- every text has items
 pub items_of : (text : List ℕ) → (items : List Item) × AreItems text items
 items_of text = items_within (length text) text (omega arith)
 
@@ -142,7 +142,7 @@ value_none : (value : List ℕ → Option (List ℕ)) → ((name : List ℕ) →
 value_none value h None = refl
 value_none value h (Some f) = rw (h f.name, value_by) refl
 
--- with no values the bytes stay
+-- without values the bytes are unchanged
 pub replaced_none : (value : List ℕ → Option (List ℕ)) → ((name : List ℕ) → value name ≡ None) → (items : List Item) → replaced value 0 items ≡ bytes_of items
 unfolding replaced
 replaced_none value h [] = refl

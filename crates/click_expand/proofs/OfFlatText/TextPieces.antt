@@ -1,4 +1,4 @@
--- Reading one piece that stands before the rest of a text.
+-- Reading one piece at the beginning of a text.
 use Rattle.std.proofs.Common.{◌≡◌, ℕ, suc, ◌+◌, ◌-◌, ◌<◌, List, [], ◌∷◌, ◌++◌, length, get_or, take, drop, Bool, true, false, ◌&&◌, eqb, Some, refl, sym, ◌∙◌, subst, arith, length-append}
 use Rattle.std.specs.Prelude.{decimal, nat_lt}
 use Rattle.std.specs.List.{list_all}
@@ -19,7 +19,7 @@ use Rattle.click_text.proofs.OfPieces.FirstBytes.{family, word_first, word_form}
 use Rattle.click_text.proofs.OfPieces.WordForms.{word_most}
 use Rattle.click_text.proofs.OfPieces.LongestPiece.{longest_blank, longest_mark, longest_colons, longest_arrow, longest_word, longest_string}
 
--- no word goes on with these bytes
+-- no word continues with these bytes
 abbrev pub Stops : List ℕ → Type 0
 Stops r = (word_byte (get_or r 0 0) ≡ false) × (eqb (get_or r 0 0) 47 ≡ false)
 
@@ -116,7 +116,7 @@ port_of_digits n h =
     let e : decimal_after 0 (decimal n) ≡ n = eqb-true (decimal_after 0 (decimal n)) n a.0 in
     rw (e, lt-ltb n 256 h) refl
 
--- where a text goes on
+-- the text after a part
 pub behind : (text : List ℕ) (at : ℕ) (p r : List ℕ) → drop at text ≡ p ++ r → drop (at + length p) text ≡ r
 behind text at p r e = sym (drop-drop (length p) at text) ∙ rw e (rest_of p r)
 

@@ -26,7 +26,7 @@ use Rattle.click_expand.proofs.OfFlatText.ClassWords.{class_word}
 use Rattle.click_expand.proofs.OfFlatText.Lines.{element_statement, connection_statement, IsDeclared, IsJoined, AreLines, no_lines, first_connection, first_element}
 use Rattle.click_expand.proofs.OfFlatText.TextPieces.{Stops, read_word, read_number, read_string, read_blank, read_semicolon, read_open, read_close, read_colons, read_arrow, port_digits, port_of_digits, behind, bytes_front}
 
--- from that place on the text has tokens that are these statements
+-- from offset `at` on, the text has tokens that are these statements
 pub record Told (at : ℕ) (text : List ℕ) (ss : List Statement) : Type 0 where
   pub tokens : List Token
   pub reads : Reads at text tokens ending.Whole
@@ -156,7 +156,7 @@ connection_stated : (s a u c : Span) (p q : Option WrittenPort) (us vs ts : List
     IsStatements ts [] ss [] [] → IsStatements (token.Word s ∷ us) [] (connection_statement s u p q ∷ ss) [] []
 connection_stated s a u c p q us vs ts ss g h r = stated (chained (an_element word no_string) (more_links g h (an_element word no_string) no_links) semicolon) r
 
--- an element's line
+-- the line of an element
 pub record ElementLine (text : List ℕ) (at : ℕ) (rest : List ℕ) (e : FlatElement) : Type 0 where
   pub name : Span
   pub class : Span
@@ -213,7 +213,7 @@ read_element text at rest e n w h =
           };
     }
 
--- a connection's line
+-- the line of a connection
 pub record ConnectionLine (text : List ℕ) (at : ℕ) (rest : List ℕ) (all : List FlatElement) (k : Connection) : Type 0 where
   pub from : Span
   pub to : Span
@@ -228,7 +228,7 @@ connection_shape : (all : List FlatElement) (k : Connection) (rest : List ℕ) �
     name_at_place all k.from ++ (out_port k.out_port ++ (32 ∷ 45 ∷ 62 ∷ 32 ∷ (in_port k.in_port ++ (name_at_place all k.to ++ (59 ∷ 10 ∷ rest)))))
 connection_shape all k rest = simp append_assoc
 
--- what a connection's line needs
+-- what the line of a connection requires
 pub record IsWritable (all : List FlatElement) (k : Connection) : Type 0 where
   pub from_there : k.from < length all
   pub to_there : k.to < length all
@@ -282,7 +282,7 @@ read_connection text at rest all k i n m h =
           };
     }
 
--- what is told of these lines
+-- what holds of the lines of these elements and connections
 pub record AllTold (text : List ℕ) (at : ℕ) (rest : List ℕ) (all es : List FlatElement) (ks : List Connection) : Type 0 where
   pub statements : List Statement
   pub told : Told at rest statements

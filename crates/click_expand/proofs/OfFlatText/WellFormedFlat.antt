@@ -1,4 +1,4 @@
--- What a flat form keeps of a configuration that a text spells: its names are words, its ports below 256.
+-- In the flat form of a configuration that a text spells, names are words and ports are below 256.
 use Rattle.std.proofs.Common.{◌≡◌, ℕ, zero, suc, ◌<◌, List, [], ◌∷◌, ◌++◌, length, map, drop, Bool, Option, Some, None, refl, sym, arith}
 use Rattle.std.specs.Prelude.{slice_get, codes}
 use Rattle.std.specs.List.{AllByRecursion}
@@ -28,7 +28,7 @@ use Rattle.click_expand.specs.Flat.{flat_name, IsFlat}
 use Rattle.click_expand.proofs.OfFlatText.NameWords.{IsName, numbered_name, path_name}
 use Rattle.click_expand.proofs.OfFlatText.WellFormedTokens.{RightHead, RightPort, RightLink, RightStatement, RightBody, right_tokens, right_text}
 
--- a configuration of words and ports
+-- in the configuration, names are words and ports are below 256
 pub record IsRight (c : Config) : Type 0 where
   pub statements : AllByRecursion (RightStatement c.text) c.statements
   pub bodies : AllByRecursion (RightBody c.text) c.bodies

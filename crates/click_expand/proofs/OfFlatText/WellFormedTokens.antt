@@ -1,4 +1,4 @@
--- What the grammar keeps of tokens: names are words, and ports are below 256.
+-- In what the grammar makes of tokens, names are words and ports are below 256.
 use Rattle.std.proofs.Common.{◌≡◌, ℕ, ◌+◌, ◌-◌, ◌<◌, List, [], ◌∷◌, ◌++◌, take, drop, Option, Some, None, refl, subst, arith, inl, inr}
 use Rattle.std.specs.Prelude.{nat_lt}
 use Rattle.std.specs.List.{AllByRecursion}

@@ -1,4 +1,5 @@
--- In a sound configuration each element has a class, and the elements of a scope have different names.
+-- In a sound configuration each element has a class, and the elements of a scope have different
+-- names.
 use Rattle.std.proofs.Common.{◌≡◌, ◌≢◌, inl, inr, ℕ, zero, suc, ◌+◌, ◌<◌, List, [], ◌∷◌, ◌++◌, map, length, Bool, true, Option, Some, None, refl, sym, ap, ◌∙◌, subst, arith, Contains}
 use Rattle.std.specs.List.{slice_get}
 use Rattle.std.proofs.lemmas.Bool.{cases_order, or_left, or_right}
@@ -41,7 +42,7 @@ module _ (c : Config) (sound : IsFaultless c) (s : Scope) (visible : List Statem
   unknown-by p (head.Compound b) t i m e f n =
       let g : Some (compound b) ≡ None = sym (ap (λ x. class_meaning c.text p.visible (head_class x)) e) ∙ n in cc
 
-  -- what is written in the scope and makes an element has a class
+  -- a written element that makes one has a class
   pub written-meant : (p : Placed) → Contains (scope_placed c s visible) p → role_in c s visible p ≡ makes → element_meaning c.text p ≢ None
   written-meant p i m n = unknown-by p p.element.head p.element.text i m refl refl n
 
@@ -58,7 +59,7 @@ module _ (c : Config) (sound : IsFaultless c) (s : Scope) (visible : List Statem
   pub meant-at : (i : ℕ) (l : ScopeElement) → slice_get (elements_of_scope c s visible) i ≡ Some l → (m : Meaning) × (l.meaning ≡ Some m)
   meant-at i l e = meant l (contains-at (elements_of_scope c s visible) i l e)
 
--- An element at a place among those that these make, where n stand before them.
+-- The element at index j among those that these written elements make, after n others.
 pub record IsNth (text : List ℕ) (in_body : Bool) (declared : List (List ℕ)) (n : ℕ) (ps : List Placed) (j : ℕ) (l : ScopeElement) : Type 0 where
   pub front : List Placed
   pub back : List Placed
@@ -79,7 +80,7 @@ module _ (text : List ℕ) (in_body : Bool) (declared : List (List ℕ)) where
   unfolding scope_elements_from
   scope_elements-none n = refl
 
-  -- an element more stands before it
+  -- one more element before it
   nth-behind : (n j : ℕ) (p : Placed) (ps : List Placed) (l : ScopeElement) → role text in_body declared p.element ≡ makes → IsNth text in_body declared (n + 1) ps j l →
       IsNth text in_body declared n (p ∷ ps) (suc j) l
   nth-behind n j p ps l e r = record {
@@ -110,7 +111,7 @@ module _ (text : List ℕ) (in_body : Bool) (declared : List (List ℕ)) where
     before = λ i k. absurd (omega (arith, k));
   }
 
-  -- one that makes none stands before it
+  -- a written element before it that makes none
   nth-past : (n j : ℕ) (p : Placed) (ps : List Placed) (l : ScopeElement) (r : Role) → role text in_body declared p.element ≡ r →
       ((m : ℕ) (qs : List Placed) → scope_elements_from text in_body declared m (p ∷ qs) ≡ scope_elements_from text in_body declared m qs) → IsNth text in_body declared n ps j l →
       IsNth text in_body declared n (p ∷ ps) j l
@@ -140,7 +141,7 @@ module _ (text : List ℕ) (in_body : Bool) (declared : List (List ℕ)) where
       nth-by n j p ps l r refl (sym (ap (λ x. slice_get x j) (scope_elements-cons n p ps r refl)) ∙ h) (λ m k i. nth-scope_element m k ps l i)
 
 module _ (c : Config) (sound : IsFaultless c) (s : Scope) (visible : List Statement) (enclosing : List Scope) (stands : Stands c s visible enclosing) where
-  -- no element has the name of one before it
+  -- no element has the name of an earlier one
   pub not-twice : (i j : ℕ) (l m : ScopeElement) → i < j → slice_get (elements_of_scope c s visible) i ≡ Some l → slice_get (elements_of_scope c s visible) j ≡ Some m → l.name ≡ m.name → ⊥
   not-twice i j l m less a b e =
       let d = scope_declared c s visible in

@@ -1,4 +1,5 @@
--- The walk over the instances: those that are open, from the one at which the walk is outwards, and what is still to come in each.
+-- The walk over the instances: the open instances, from the current one outwards, and what is still
+-- to come in each.
 use Rattle.std.proofs.Common.{◌≡◌, ℕ, suc, zero, ◌+◌, ◌<◌, List, [], ◌∷◌, ◌++◌, length, Option, Some, None, refl, sym, ap, ◌∙◌, subst, append_assoc, arith}
 use Rattle.std.specs.List.{slice_get, slice_set}
 use Rattle.std.proofs.lemmas.Option.{slice_get_within}
@@ -32,7 +33,8 @@ module _ (c : Config) where
   abbrev pub IsFull : List KnownInstance → ℕ → Instance → Type 0
   IsFull known u k = (x : KnownInstance) × (slice_get known u ≡ Some x) × (length k.parts ≡ length (scope_elements_at c x))
 
-  -- An open instance: its elements that are still to come have these primitive elements and so many paths. Those after it, up to a place, have all their parts.
+  -- An open instance, with index `at`. Its elements that are still to come have these flat
+  -- elements, and n paths. The instances after it, below index `upper`, have all their parts.
   pub record Frame (instances : List Instance) (known : List KnownInstance) (upper at : ℕ) (primitive_elements : List PrimitiveElement) (n : ℕ) : Type 0 where
     pub used : KnownInstance
     pub instance_is_there : slice_get known at ≡ Some used
@@ -45,13 +47,13 @@ module _ (c : Config) where
     pub leads : ArePrimitiveElements c used.scope used.enclosing used.path used.bindings rest primitive_elements n
     pub full : (u : ℕ) (k : Instance) → at < u → u < upper → slice_get instances u ≡ Some k → IsFull known u k
 
-  -- the open instances around one
+  -- the open instances around an instance
   pub data Chain (instances : List Instance) (known : List KnownInstance) : ℕ → Option Place → List PrimitiveElement → ℕ → Type 0 where
     outermost : (upper : ℕ) → Chain instances known upper None [] 0
     within : (upper : ℕ) (p : Place) (inner primitive_elements : List PrimitiveElement) (m n : ℕ) (f : Frame instances known upper p.within inner m) → p.within < upper →
         Chain instances known p.within f.kept.enclosing primitive_elements n → Chain instances known upper (Some p) (inner ++ primitive_elements) (m + n)
 
-  -- The walk is at that place.
+  -- The current instance of the walk has the index `at`.
   pub record Walking (instances : List Instance) (places : List Place) (at : ℕ) (primitive_elements : List PrimitiveElement) (n : ℕ) : Type 0 where
     pub known : List KnownInstance
     pub done : List PrimitiveElement
@@ -70,7 +72,7 @@ module _ (c : Config) where
   abbrev pub IsWalked : List Instance → List Place → List PrimitiveElement → Type 0
   IsWalked instances places primitive_elements = (known : List KnownInstance) × AreInstances c instances places known primitive_elements
 
-  -- the same in instances that are the same below a place
+  -- the frame and the chain, in instances that are the same below an index
   module _ (instances new : List Instance) (known wider : List KnownInstance) where
     pub frame-same : (upper at : ℕ) (primitive_elements : List PrimitiveElement) (n : ℕ) → at < upper → ((u : ℕ) → u < upper → slice_get new u ≡ slice_get instances u) → ((u : ℕ) (x : KnownInstance) → slice_get known u ≡ Some x → slice_get wider u ≡ Some x) →
         (f : Frame instances known upper at primitive_elements n) → (g : Frame new wider upper at primitive_elements n) × (g.kept.enclosing ≡ f.kept.enclosing)
@@ -98,7 +100,8 @@ module _ (c : Config) where
         within upper' p inner outer m k g.0 l
         (subst (λ a. Chain new wider p.within a outer k) (sym g.1) (chain-same p.within f.kept.enclosing outer k (λ u j. s u (omega (arith, j, l))) t h))
 
-  -- an element with no class has no primitive elements; one of the router's classes is one; a body has those inside it
+  -- an element without a class has no flat elements; an element of one of the router's classes is
+  -- one; a compound has those inside it
   pub record PrimitiveElementCase (s : Scope) (enclosing : List Scope) (path : List (List ℕ)) (bindings : Bindings) (l : ScopeElement) (ls : List ScopeElement) (all : List PrimitiveElement) (n : ℕ) : Type 0 where
     pub class : Class
     pub text : List ℕ
@@ -159,7 +162,7 @@ module _ (c : Config) where
   pub end-case : (s : Scope) (enclosing : List Scope) (path : List (List ℕ)) (bindings : Bindings) (all : List PrimitiveElement) (n : ℕ) → ArePrimitiveElements c s enclosing path bindings [] all n → (all ≡ []) × (n ≡ 0)
   end-case s enclosing path bindings all n (no_elements s1 a1 p1 b1) = (refl, refl)
 
-  -- the beginning
+  -- the beginning of the walk
   pub walking-first : (place : ℕ) (primitive_elements : List PrimitiveElement) (n : ℕ) → place ≡ length c.bodies → PrimitiveElementsOf c primitive_elements n → Walking (instance_without_parts place None None ∷ []) [] 0 primitive_elements n
   walking-first place primitive_elements n e h = record {
     known = the_whole ∷ [];
@@ -210,7 +213,7 @@ module _ (c : Config) where
       first_each zero k g = (the_whole, refl, first_so_far k (same_some g))
       first_each (suc u) k g = absurd (cc g)
 
-  -- a body that is used in a scope is written in it or in one around it
+  -- a body that is used in a scope is written in it, or in a scope around it
   pub founded-enclosing : IsNested c → (x : KnownInstance) (i b : ℕ) (l : ScopeElement) (v : List Statement) (o : List Scope) → Stands c x.scope x.visible x.enclosing → slice_get (scope_elements_at c x) i ≡ Some l →
       l.meaning ≡ Some (compound b) → Stands c (inside b) v o → (front : List Scope) × (x.scope ∷ x.enclosing ≡ front ++ o)
   founded-enclosing nested x i b l v o h e q k =
@@ -222,7 +225,7 @@ module _ (c : Config) where
   next-there [] rest l = refl
   next-there (d ∷ done) rest l = next-there done rest l
 
-  -- the instance at which the walk is, as far as its parts go
+  -- the current instance, with its parts so far
   module _ (instances : List Instance) (places : List Place) (at : ℕ) (primitive_elements : List PrimitiveElement) (n : ℕ) (w : Walking instances places at primitive_elements n) where
     pub at-so_far : IsSoFar c instances places w.known at w.frame.kept w.frame.used
     at-so_far =
@@ -267,7 +270,7 @@ module _ (c : Config) where
         (λ u l. changed-other instances at (with_part w.frame.kept p) more u (let b = at-within in omega (arith, l, b)) (λ s. omega (arith, s, l)))
         (λ u x. slice_get-more w.known wider u x) w.chain
 
-    -- a flat element
+    -- a flat element is next
     pub walking-primitive_element : (l : ScopeElement) (ls : List ScopeElement) → w.frame.rest ≡ l ∷ ls → ((b : ℕ) → l.meaning ≡ Some (compound b) → ⊥) →
         Walking (slice_set instances at (with_part w.frame.kept (part.PrimitiveElement (length places))) ++ []) (places ++ element_place at (length w.frame.kept.parts) ∷ []) at primitive_elements n
     walking-primitive_element l ls e d =

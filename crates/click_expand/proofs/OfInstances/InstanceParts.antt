@@ -1,4 +1,4 @@
--- A part, and what it stands for, is added to the instances that there are.
+-- A part, and what it stands for, is added to the instances.
 use Rattle.std.proofs.Common.{◌≡◌, ◌⊎◌, inl, inr, ℕ, suc, zero, ◌+◌, ◌<◌, List, [], ◌∷◌, ◌++◌, length, Option, Some, None, refl, sym, ap, ◌∙◌, subst, arith}
 use Rattle.std.specs.List.{slice_get, slice_set}
 use Rattle.std.proofs.lemmas.Bool.{cases_eq}
@@ -39,7 +39,7 @@ pub slice_get-behind : {X : Type 0} (xs ys : List X) (j : ℕ) → slice_get (xs
 slice_get-behind [] ys j = let e : 0 + j ≡ j = omega arith in ap (slice_get ys) e
 slice_get-behind (x ∷ xs) ys j = let e : suc (length xs) + j ≡ suc (length xs + j) = omega arith in ap (slice_get (x ∷ (xs ++ ys))) e ∙ slice_get-behind xs ys j
 
--- an element of a list with more after it is one of the list or of those
+-- an item of two joined lists is an item of one of them
 slice_get-either : {X : Type 0} (xs ys : List X) (u : ℕ) (q : X) → slice_get (xs ++ ys) u ≡ Some q →
     ((u < length xs) × (slice_get xs u ≡ Some q)) ⊎ ((j : ℕ) × (u ≡ length xs + j) × (slice_get ys j ≡ Some q))
 slice_get-either [] ys u q h = inr (u, omega arith, h)
@@ -50,7 +50,7 @@ slice_get-either (x ∷ xs) ys (suc u) q h =
       | inr r ↦ (let e = r.1 in inr (r.0, omega (arith, e), r.2))
     ]
 
--- what one finds at a place among instances of which one is changed, with more after them
+-- the instance at an index, after one instance was changed and others were appended
 pub data Looked (instances : List Instance) (at : ℕ) (k : Instance) (more : List Instance) (u : ℕ) (q : Instance) : Type 0 where
   same_place : u ≡ at → q ≡ k → Looked instances at k more u q
   other_place : (u ≡ at → ⊥) → slice_get instances u ≡ Some q → Looked instances at k more u q
@@ -86,7 +86,7 @@ pub record IsGrown (k q : Instance) : Type 0 where
 abbrev pub Grows : List Instance → List Instance → Type 0
 Grows instances new = (u : ℕ) (k : Instance) → slice_get instances u ≡ Some k → (q : Instance) × (slice_get new u ≡ Some q) × IsGrown k q
 
--- what stands in a list stands there in another one
+-- the items of one list are at the same indices in another
 abbrev pub Stays : {X : Type 0} → List X → List X → Type 0
 Stays {X} xs ys = (i : ℕ) (x : X) → slice_get xs i ≡ Some x → slice_get ys i ≡ Some x
 
@@ -107,7 +107,7 @@ changed-grows instances at k p more h u q e =
     ]
 
 module _ (c : Config) where
-  -- An instance as far as its parts go.
+  -- An instance with its parts so far.
   pub record IsSoFar (instances : List Instance) (places : List Place) (known : List KnownInstance) (u : ℕ) (k : Instance) (x : KnownInstance) : Type 0 where
     pub stands : Stands c x.scope x.visible x.enclosing
     pub scope : k.scope ≡ table_place c x.scope
@@ -189,7 +189,7 @@ module _ (c : Config) where
           (l, ap (slice_get (scope_elements_at c x)) (sym at) ∙ e, subst (λ n. IsPart instances places u n l y) at (subst (IsPart instances places u (length k.parts) l) (same_some g) h))
       at_end i y (suc j) s g = absurd (cc g)
 
-  -- What is added: a part to one instance, and the instance or the flat element that it stands for.
+  -- What is added: a part of one instance, and the instance or the flat element that it stands for.
   pub record IsAddition (instances : List Instance) (places : List Place) (known : List KnownInstance) (done : List PrimitiveElement) (at : ℕ) (k : Instance) (x : KnownInstance) (p : InstancePart) (more : List Instance) (further : List Place) (wider : List KnownInstance) (primitive_elements : List PrimitiveElement) : Type 0 where
     pub there : slice_get instances at ≡ Some k
     pub used : slice_get known at ≡ Some x

@@ -1,4 +1,4 @@
--- The instance of the scope that a body is written in, where that body is used.
+-- The lexical parent of an instance: the instance of the scope in which its body is written.
 use Rattle.std.proofs.Common.{◌≡◌, ◌⊎◌, inl, inr, ℕ, ◌<◌, ◌≤◌, List, [], ◌∷◌, ◌++◌, length, Bool, true, false, cond, eqb, Option, Some, None, refl, sym, ap, ◌∙◌, subst, arith, Contains}
 use Rattle.std.specs.List.{slice_get}
 use Rattle.std.proofs.lemmas.Bool.{ne_eqb, eqb-false, eqb-true}
@@ -21,7 +21,8 @@ abbrev pub Agree : Config → Bindings → Bindings → List Scope → Type 0
 Agree c a b [] = Unit {0}
 Agree c a b (s ∷ ss) = ((name : List ℕ) → scope_value c a s name ≡ scope_value c b s name) × Agree c a b ss
 
--- the instance of the scope that a scope stands in, with the same arguments for the scopes around
+-- the instance of the scope around the scope of an instance, with the same arguments for the scopes
+-- around
 abbrev pub IsLexicalParentKept : Config → List KnownInstance → ℕ → KnownInstance → Option ℕ → Type 0
 IsLexicalParentKept c known u x None = x.enclosing ≡ []
 IsLexicalParentKept c known u x (Some w) =
@@ -44,7 +45,7 @@ module _ (c : Config) where
   agree-value a b (s ∷ ss) name h =
       ap (λ o. first_value o (value_in c a ss name)) (h.0 name) ∙ ap (first_value (scope_value c b s name)) (agree-value a b ss name h.1)
 
-  -- each of these scopes has a place after that one
+  -- each of these scopes has a higher index than b
   abbrev Above : ℕ → List Scope → Type 0
   Above b [] = Unit {0}
   Above b (s ∷ ss) = (b < table_place c s) × Above b ss
@@ -62,7 +63,7 @@ module _ (c : Config) where
   value-new b values bs (inside q) name l =
       ap (λ (t : Bool). argument_of c.text (formals_of c (inside q)) (cond t values (arguments_for bs q)) name) (eqb-less b q l)
 
-  -- the arguments of a body are none of the scopes around it
+  -- the arguments of a body are not those of a scope around it
   agree-new : (b : ℕ) (values : List (List ℕ)) (bs : Bindings) (ss : List Scope) → Above b ss → Agree c ((b, values) ∷ bs) bs ss
   agree-new b values bs [] h = tt
   agree-new b values bs (s ∷ ss) h = (λ name. value-new b values bs s name h.0, agree-new b values bs ss h.1)
@@ -96,7 +97,7 @@ module _ (c : Config) where
       let l = below-all n t b (subst (λ x. Contains (direct x) b) (sym e) (direct-has c.bodies before st after b i)) in
       omega (arith, l, same)
 
-  -- the scope that a body stands in, and what is around that
+  -- the scope around a body, and the scopes around that
   pub record IsNext (o : List Scope) : Type 0 where
     pub scope : Scope
     pub visible : List Statement
@@ -114,12 +115,12 @@ module _ (c : Config) where
   place-once n (inside p) whole v w a d h k e = let l = inside-within n (inside p) v a h p refl in absurd (omega (arith, l, e))
   place-once n (inside p) (inside q) v w a d h k e = ap inside e
 
-  -- the lexical parents of the instances that there are
+  -- the lexical parents of the instances so far
   pub record AreLexicalParents (instances : List Instance) (known : List KnownInstance) : Type 0 where
     pub each : (u : ℕ) (k : Instance) → slice_get instances u ≡ Some k → (x : KnownInstance) × (slice_get known u ≡ Some x)
         × Stands c x.scope x.visible x.enclosing × (k.scope ≡ table_place c x.scope) × IsLexicalParentKept c known u x k.lexical_parent
 
-  -- on the way from an instance to the lexical parent of a body that is used there
+  -- an instance on the way from an instance to the lexical parent of a body that is used there
   pub record IsOnWay (known : List KnownInstance) (bs : Bindings) (outer : List Scope) (u w : ℕ) : Type 0 where
     pub used : KnownInstance
     pub there : slice_get known w ≡ Some used
@@ -173,7 +174,7 @@ module _ (c : Config) where
         let r = lexical_parent-of (eqb k.scope scope) k.lexical_parent y h in
         outward u x y k e (λ s. eqb-false k.scope scope r.0 (s ∙ sym q)) r.1 (follow scope u x q f way)
 
-    -- the lexical parent that is found
+    -- the lexical parent that was found
     pub record IsFound (u w : ℕ) : Type 0 where
       pub used : KnownInstance
       pub there : slice_get known w ≡ Some used
@@ -212,7 +213,7 @@ module _ (c : Config) where
         ]) in
         record { used = r.used; there = r.there; is = is; agree = subst (Agree c bs r.used.bindings) (sym is) r.agree; within = r.within }
 
-  -- the lexical parent of a new instance of a body that is used in another
+  -- the lexical parent of a new instance of a body that is used in another instance
   pub new-lexical_parent : IsNested c → (instances : List Instance) (known : List KnownInstance) → AreLexicalParents instances known → (ks : List ScopeKept) → AreAllScopes c ks →
       (u w b : ℕ) (o : KnownInstance) (v : List Statement) (outer front : List Scope) (values : List (List ℕ)) → slice_get known u ≡ Some o → o.scope ∷ o.enclosing ≡ front ++ outer →
       Stands c (inside b) v outer → IsLexicalParentIn instances (parent_by (slice_get ks b)) u w →

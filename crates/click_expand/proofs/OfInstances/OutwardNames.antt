@@ -1,4 +1,4 @@
--- The flat names of elements by the way outwards.
+-- The flat names of elements, by the way outwards.
 use Rattle.std.proofs.Common.{◌≡◌, ℕ, ◌<◌, List, [], ◌∷◌, ◌++◌, map, reverse, nat_lt, Bool, true, false, cond, Option, Some, None, refl, sym, ap, ◌∙◌, subst, append_assoc, arith}
 use Rattle.std.specs.List.{slice_get}
 use Rattle.std.proofs.lemmas.Bool.Decides.{nat_tests}
@@ -29,7 +29,7 @@ named c scopes instances places known primitive_elements all used p k o l there 
     let m = map-there (scope_element_of c.text) ls.0.elements.items p.element l (ap (λ zs. slice_get zs p.element) (ls.2.elements ∙ ap (scope_elements_at c) here) ∙ scope_element) in
     ap (instance_name scopes p.element) there ∙ ap (scope_name p.element) (ap (slice_get scopes) u.2.scope ∙ ls.1) ∙ ap local_name m.1 ∙ ap (λ (x : ScopeElement). x.name) m.2
 
--- the way from an instance outwards up to another
+-- the way outwards from an instance to another
 abbrev pub IsWalked : List InstanceKept → ℕ → ℕ → List Place → Type 0
 IsWalked instances within at way =
     (c : Config) (scopes : List ScopeKept) (places : List Place) (known : List KnownInstance) (primitive_elements : List PrimitiveElement) (x : KnownInstance) → AreAllScopes c scopes →
@@ -101,7 +101,7 @@ walked-all instances within at way e walked c scopes places known primitive_elem
     let top = outermost c known at u.0 k.0.enclosing (enclosing-none instances at k.0 k.1 e) u.2.enclosing in
     v.2 ∙ ap (λ (y : KnownInstance). y.path ++ reverse (map (name_of_place scopes instances) way)) (same ∙ top)
 
--- what is still to be written of the way
+-- what is left to write of the way
 abbrev pub IsWriting : List ScopeKept → List InstanceKept → ℕ → List Place → List ℕ → Type 0
 IsWriting scopes instances within way name =
     (c : Config) (places : List Place) (known : List KnownInstance) (primitive_elements : List PrimitiveElement) (x : KnownInstance) → AreAllScopes c scopes → AreInstances c instances places known primitive_elements →

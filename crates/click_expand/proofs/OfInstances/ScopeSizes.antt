@@ -1,4 +1,4 @@
--- The sizes of scopes, one after another by their places.
+-- The sizes of scopes, one after another by their indices.
 use Rattle.std.proofs.Common.{◌≡◌, ◌⊎◌, inl, inr, ℕ, suc, ◌+◌, ◌<◌, ◌≤◌, min, List, [], ◌∷◌, ◌++◌, map, length, Option, Some, None, refl, sym, ap, ◌∙◌, subst, append_assoc, arith}
 use Rattle.std.specs.List.{slice_get, sum_by}
 use Rattle.std.proofs.lemmas.Bool.{cases_order}
@@ -44,20 +44,20 @@ module _ (c : Config) where
   IsScopeSize s visible enclosing size =
       (path : List (List ℕ)) (bindings : Bindings) (primitive_elements : List PrimitiveElement) (n : ℕ) → ArePrimitiveElements c s enclosing path bindings (elements_of_scope c s visible) primitive_elements n → IsSize primitive_elements n size
 
-  -- the scopes up to a place have their sizes
+  -- the scopes with lower indices have their sizes
   abbrev pub AreWeighed : List Size → Type 0
   AreWeighed sizes =
       (s : Scope) (visible : List Statement) (enclosing : List Scope) → Stands c s visible enclosing → table_place c s < length sizes →
       (size : Size) × (slice_get sizes (table_place c s) ≡ Some size) × IsScopeSize s visible enclosing size
 
-  -- the numbers of some elements' primitive elements and of the paths to them
+  -- the number of flat elements of some elements, and the number of paths to them
   pub record AreCounted (sizes : List Size) (vs : List ScopeElementKept) (primitive_elements : List PrimitiveElement) (n : ℕ) : Type 0 where
     pub elements : min (length primitive_elements) (most_elements + 1) ≡ min (sum_by (elements_in sizes) vs) (most_elements + 1)
     pub all_paths : min n (most_paths + 1) ≡ min (sum_by (paths_in sizes) vs) (most_paths + 1)
 
   module _ (nested : IsNested c) (sizes : List Size) (weighed : AreWeighed sizes) (s : Scope) (visible : List Statement) (enclosing : List Scope) (stands : Stands c s visible enclosing)
       (next : table_place c s ≡ length sizes) (path : List (List ℕ)) (bindings : Bindings) where
-    -- an element that is one of the router's classes
+    -- an element of one of the router's classes
     counted-primitive_element : (v : ScopeElementKept) (vs : List ScopeElementKept) (primitive_elements : List PrimitiveElement) (n : ℕ) → (size_inside sizes v.class).elements ≡ 1 → (size_inside sizes v.class).paths ≡ 0 →
         (r : PrimitiveElementCase c s enclosing path bindings (scope_element_of c.text v) (map (scope_element_of c.text) vs) primitive_elements n) → AreCounted sizes vs r.primitive_elements r.m → AreCounted sizes (v ∷ vs) primitive_elements n
     counted-primitive_element v vs primitive_elements n e f r h = record {
@@ -75,7 +75,7 @@ module _ (c : Config) where
         one-path : (p y : ℕ) → p ≡ 0 → 1 + y ≡ p + 1 + y
         one-path p y e = omega (arith, e)
 
-    -- an element that is a body
+    -- an element of a compound
     counted-inner : (v : ScopeElementKept) (vs : List ScopeElementKept) (b : ℕ) (primitive_elements : List PrimitiveElement) (n : ℕ) (size : Size) → size_inside sizes v.class ≡ size →
         (r : InnerCase c s enclosing path bindings (scope_element_of c.text v) (map (scope_element_of c.text) vs) b primitive_elements n) → IsSize r.inner r.m size → AreCounted sizes vs r.primitive_elements r.k → AreCounted sizes (v ∷ vs) primitive_elements n
     counted-inner v vs b primitive_elements n size e r g h = record {
@@ -126,7 +126,7 @@ module _ (c : Config) where
         record { elements = ap (λ (x : List PrimitiveElement). min (length x) (most_elements + 1)) r.0; all_paths = ap (λ x. min x (most_paths + 1)) r.1 }
     counted (v ∷ vs) done primitive_elements n e h = by-class v vs done primitive_elements n v.class refl e h (λ further m k. counted vs (done ++ scope_element_of c.text v ∷ []) further m (behind v vs done e) k)
 
-  -- the size of the scope at the next place
+  -- the size of the scope at the next index
   scope-weighed : IsNested c → (sizes : List Size) → AreWeighed sizes → (s : Scope) (visible : List Statement) (enclosing : List Scope) → Stands c s visible enclosing → table_place c s ≡ length sizes →
       (vs : List ScopeElementKept) → map (scope_element_of c.text) vs ≡ elements_of_scope c s visible → (size : Size) → IsSum sizes vs size → IsScopeSize s visible enclosing size
   scope-weighed nested sizes weighed s visible enclosing stands next vs e size h path bindings primitive_elements n k =
@@ -154,7 +154,7 @@ module _ (c : Config) where
       by_place s visible enclosing stands (inr (inl q)) l = let r = weighed s visible enclosing stands q in (r.0, slice_get-more sizes (size ∷ []) (table_place c s) r.0 r.1, r.2)
       by_place s visible enclosing stands (inr (inr q)) l = let n : length (sizes ++ size ∷ []) ≡ length sizes + 1 = length_push sizes size in absurd (omega (arith, q, l, n))
 
-  -- all scopes have their sizes, and so has the whole text
+  -- all scopes have their sizes, and so does the whole text
   pub weighed-all : (scopes : List ScopeKept) → AreAllScopes c scopes → (sizes : List Size) → length scopes ≤ length sizes → AreWeighed sizes →
       IsSizeOf c (size_or (slice_get sizes (length c.bodies)))
   weighed-all scopes all sizes l weighed primitive_elements n h =

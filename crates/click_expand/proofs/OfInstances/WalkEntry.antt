@@ -23,7 +23,7 @@ use Rattle.click_expand.proofs.OfInstances.LexicalParents.{same_some, IsLexicalP
 use Rattle.click_expand.proofs.OfInstances.InstanceParts.{changed-there, changed-behind, IsSoFar, Kept, kept-added}
 use Rattle.click_expand.proofs.OfInstances.Frames.{Chain, within, Walking, InnerCase, inner-case, founded-enclosing, at-so_far, at-within, at-scope_element, frame-part, chain-changed}
 
--- what is kept says where the lexical parents are
+-- the lexical parents of the instances so far
 pub lexical_parents-kept : (c : Config) (instances : List Instance) (places : List Place) (known : List KnownInstance) (done : List PrimitiveElement) → Kept c instances places known done → AreLexicalParents c instances known
 lexical_parents-kept c instances places known done w = record { each = λ u k e. let r = w.each u k e in (r.0, r.1, r.2.stands, r.2.scope, r.2.lexical_parent) }
 
@@ -142,7 +142,7 @@ module _ (c : Config) (nested : IsNested c) (ks : List ScopeKept) (scopes : AreA
           })
           w.kept))
 
-      -- the walk is at the new instance
+      -- the new instance is the current one
       pub walking-inner : Walking c new places (length instances) primitive_elements n
       walking-inner =
           let g = frame-part c instances places at primitive_elements n w added (fresh ∷ []) (entered ∷ []) (length instances) l ls the-case.primitive_elements the-case.k refl e the-case.rest in

@@ -43,7 +43,7 @@ module _ (c : Config) where
   }
 
   module _ (instances : List Instance) (places : List Place) (at : ℕ) (primitive_elements : List PrimitiveElement) (n : ℕ) (w : Walking c instances places at primitive_elements n) (none : w.frame.rest ≡ []) where
-    -- the instance at which the walk is has all its parts, and so have those after it
+    -- the current instance has all its parts, and so do those after it
     full-here : length w.frame.kept.parts ≡ length (scope_elements_at c w.frame.used)
     full-here = w.frame.as_far ∙ sym (ap length (w.frame.splits ∙ ap (λ xs. w.frame.done ++ xs) none ∙ append-nil w.frame.done))
 
@@ -117,7 +117,7 @@ module _ (c : Config) where
     ended : (outer : List PrimitiveElement) (k : ℕ) → Chain c instances w.known at None outer k → outer ≡ []
     ended outer k (outermost upper) = refl
 
-    -- the whole text has all its parts, and so has each instance
+    -- the whole text has all its parts, and so does each instance
     pub walked : w.frame.kept.enclosing ≡ None → IsWalked c instances places primitive_elements
     walked e =
         let start : at ≡ 0 = (subst (IsEnclosing c w.known at w.frame.used) e (at-so_far c instances places at primitive_elements n w).enclosing).0 in

@@ -26,7 +26,7 @@ use Rattle.click_expand.proofs.OfInstances.Frames.{Walking, IsWalked, at-so_far,
 use Rattle.click_expand.proofs.OfInstances.WalkEntry.{walking-inner}
 use Rattle.click_expand.proofs.OfInstances.WalkExit.{walking-back, walked}
 
--- what stands next is the first of the elements that are still to come
+-- what comes next is the first of the elements that are still to come
 abbrev pub IsNextOf : NextElement → List ScopeElement → Type 0
 IsNextOf (next.Inner b) ls = (l : ScopeElement) × (rest : List ScopeElement) × (ls ≡ l ∷ rest) × (l.meaning ≡ Some (compound b))
 IsNextOf next.Flat ls = (l : ScopeElement) × (rest : List ScopeElement) × (ls ≡ l ∷ rest) × ((b : ℕ) → l.meaning ≡ Some (compound b) → ⊥)
@@ -43,7 +43,7 @@ next-kept text (v ∷ vs) [] ls e = subst (IsNextOf (next_class v.class)) e (nex
 next-kept text [] (d ∷ done) ls e = absurd (cc e)
 next-kept text (v ∷ vs) (d ∷ done) ls e = next-kept text vs done ls (let t : map (scope_element_of text) vs ≡ done ++ ls = cc e in t)
 
--- the walk goes on to a new part, or back to an instance with a smaller place
+-- the walk goes on to a new part, or back to an instance with a lower index
 abbrev pub IsForward : Walk → Walk → Type 0
 IsForward old new =
     (length new.instances.items + length new.primitive_elements.items ≡ length old.instances.items + length old.primitive_elements.items + 1)
@@ -120,7 +120,7 @@ module _ (c : Config) (nested : IsNested c) (ks : List ScopeKept) (scopes : AreA
         step-by (next_in (elements_by (slice_get ks w.frame.kept.scope)) (length w.frame.kept.parts)) more next-read
         (subst (λ (k : Instance). IsWalkStepBy ks old new k (next_in (elements_by (slice_get ks k.scope)) (length k.parts)) more) same h.2)
 
-  -- the lexical parents of the instances have smaller places
+  -- the lexical parents of the instances have lower indices
   pub inward : (old : Walk) (primitive_elements : List PrimitiveElement) (n : ℕ) → Walking c old.instances.items old.primitive_elements.items old.place primitive_elements n → AreInward old.instances.items
   inward old primitive_elements n w u k v e h =
       let r = w.kept.each u k e in

@@ -1,4 +1,4 @@
--- Laws of a flat form: names, order and ends; and its elements where there are no compounds.
+-- The names, the order and the ends of a flat form, and its elements if there are no compounds.
 use Rattle.std.proofs.Common.{◌≡◌, ℕ, zero, suc, ◌<◌, List, [], ◌∷◌, length, map, Contains, Option, Some, refl, sym, ap, ◌∙◌, subst, arith}
 use Rattle.std.specs.List.{slice_get}
 use Rattle.std.proofs.lemmas.Option.{slice_get_within}
@@ -39,7 +39,7 @@ distinct-names c f i j d e h a b same =
     distinct-at (flat_names h.primitive_elements) h.distinct i j d.name e.name (name-at h.primitive_elements i d (ap (λ es. slice_get es i) (sym h.elements) ∙ a))
     (name-at h.primitive_elements j e (ap (λ es. slice_get es j) (sym h.elements) ∙ b)) same
 
--- in a list in order each stands before those after it
+-- in an ordered list each connection comes before those after it
 pub ordered-at : (ks : List Connection) → AreOrdered ks → (i j : ℕ) (k l : Connection) → slice_get ks i ≡ Some k → slice_get ks j ≡ Some l → i < j → StandsBefore k l
 ordered-at [] o i j k l h g m = absurd (cc h)
 ordered-at (x ∷ ks) o zero zero k l h g m = absurd (omega (arith, m))
@@ -55,7 +55,7 @@ ends-within c f k h m =
     let b = slice_get_within h.primitive_elements k.to j.to j.to_there in
     (omega (arith, n, a), omega (arith, n, b))
 
--- without parameters a text stays as it is
+-- without parameters a text is unchanged
 same-text : (c : Config) (text result : List ℕ) → IsReplaced c [] (whole ∷ []) text result → result ≡ text
 same-text c text result h = h.replaces ∙ replaced_none (value_in c [] (whole ∷ [])) (λ name. refl) h.items ∙ items_bytes h.read
 

@@ -1,4 +1,4 @@
--- Without compounds the connections are those of the whole text, as written.
+-- Without compounds the connections are the written ones of the whole text.
 use Rattle.std.proofs.Common.{◌≡◌, inl, inr, ℕ, zero, suc, List, [], ◌∷◌, ◌++◌, map, Bool, true, false, cond, Option, Some, None, refl, sym, ap, ◌∙◌, subst, Contains}
 use Rattle.std.specs.List.{slice_get}
 use Rattle.std.proofs.lemmas.List.Elements.{Contains-append_right, Contains-append_cases}
@@ -28,7 +28,7 @@ module _ (c : Config) where
   abbrev top : ScopeNames
   top = scope_names c whole []
 
-  -- an end of the whole text is no port of a body
+  -- an end in the whole text is not a port of a body
   abbrev IsOwn : End → Type 0
   IsOwn e = e.role ≡ pseudo → ⊥
 
@@ -88,7 +88,7 @@ module _ (c : Config) where
   ends-own e refers port h = refl
   ends-own e makes port h = refl
 
-  -- no element among these is a compound
+  -- none of these elements is a compound
   abbrev IsFree : List ScopeElement → Type 0
   IsFree ls = (l : ScopeElement) (b : ℕ) → Contains ls l → l.meaning ≡ Some (compound b) → ⊥
 

@@ -1,4 +1,4 @@
--- A flat element by what is found of it.
+-- A flat element, from what was found of it.
 use Rattle.std.proofs.Common.{◌≡◌, ℕ, zero, suc, ◌+◌, ◌<◌, ◌≤◌, List, [], ◌∷◌, ◌++◌, map, take, drop, get_or, length, Option, Some, None, refl, sym, ap, ◌∙◌, subst, arith, length-append}
 use Rattle.std.specs.List.{slice_get}
 use Rattle.std.proofs.lemmas.List.{map-append, take_all}
@@ -71,7 +71,7 @@ pub element-same : (f : PrimitiveElement) (name : List ℕ) (kind : Class) (text
 element-same f name kind text e g h =
     ap (λ (z : List ℕ). the-element z kind text) e ∙ ap (λ (z : Class). the-element (flat_name f.path) z text) g ∙ ap (λ (z : List ℕ). the-element (flat_name f.path) f.class z) h
 
--- What is written after the old text.
+-- What was written after the old text.
 module _ (old text new : List ℕ) where
   pub text-behind : (n : ℕ) → n ≡ length old → new ≡ old ++ text → drop n new ≡ text
   text-behind n e h = ap (λ m. drop m new) e ∙ front_rest new old text h
@@ -79,7 +79,7 @@ module _ (old text new : List ℕ) where
   pub room-behind : (left room : ℕ) → new ≡ old ++ text → left + length new ≡ room + length old → left + length text ≡ room
   room-behind left room h r = let l = ap length h in omega (arith, l, r, length-append old text)
 
--- So many of the primitive elements are made, and so much room is left.
+-- The first i of the flat elements are made, and `room` bytes are left.
 pub record AreMade (primitive_elements : List PrimitiveElement) (i : ℕ) (made : List FlatElement) (room : ℕ) : Type 0 where
   pub is : made ≡ map flat_element (take i primitive_elements)
   pub left : room + text_size (take i primitive_elements) ≡ most_text
@@ -130,7 +130,7 @@ some-at [] i d l = absurd (omega (arith, l))
 some-at (x ∷ xs) zero d l = refl
 some-at (x ∷ xs) (suc i) d l = some-at xs i d (omega (arith, l))
 
--- The element at a place is made, and so much room is left, or there is no room for it.
+-- The element at a place is made, and `left` bytes are left; or there is no room for it.
 abbrev pub IsElement : Config → List InstanceKept → Place → ℕ → ℕ → Option FlatElement → Type 0
 IsElement c instances p room left o =
     (places : List Place) (known : List KnownInstance) (primitive_elements : List PrimitiveElement) (n : ℕ) (f : PrimitiveElement) → AreInstances c instances places known primitive_elements → slice_get places n ≡ Some p → slice_get primitive_elements n ≡ Some f →

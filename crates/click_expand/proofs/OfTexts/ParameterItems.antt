@@ -1,4 +1,4 @@
--- A parameter begins the items of a text where it begins the text.
+-- A text begins with a parameter exactly if its items do.
 use Rattle.std.proofs.Common.{◌≡◌, inl, inr, ℕ, zero, suc, ◌+◌, ◌-◌, ◌<◌, ◌≤◌, List, [], ◌∷◌, ◌++◌, length, take, drop, Bool, true, false, cond, eqb, Option, Some, None, refl, sym, ap, ◌∙◌, subst, arith, length-take}
 use Rattle.std.specs.Prelude.{if◌then◌else◌}
 use Rattle.std.specs.List.{prefix_len}
@@ -14,7 +14,7 @@ use Rattle.click_text.proofs.OfItems.ItemForms.{no_bytes}
 use Rattle.click_expand.specs.Parameters.{Formal, byte_of, byte_passes, is_byte, is_name_item, name_run, formal, is_closed, formal_behind, formal_at, value_by, found_bytes, found_size, replaced}
 use Rattle.click_expand.specs.kept.Texts.{formal_run, begins_with, formal_after, formal_in}
 
--- A test that no byte passes which begins an item of another kind.
+-- A test that fails for each byte with which an item of another kind begins.
 pub record Plain (T : ℕ → Bool) : Type 0 where
   pub double : T 34 ≡ false
   pub single : T 39 ≡ false
@@ -47,7 +47,7 @@ plain-close : Plain (eqb 125)
 plain-close = record { double = refl; single = refl; slash = refl; back = refl; blank = close-blank }
 
 module _ (T : ℕ → Bool) (p : Plain T) where
-  -- the test on the item is that on its first byte
+  -- the test of an item is the test of its first byte
   same-head : (k : ItemKind) (b : ℕ) (r : List ℕ) → IsItem k (b ∷ r) → byte_passes T (byte_of k) ≡ T b
   same-head kind.White b r (x, w, e) = let f : x ≡ b = cc in sym (p.blank b (subst (λ y. white y ≡ true) f w))
   same-head kind.Comment b r (inl (q, e, a)) = let f : 47 ≡ b = cc in sym p.slash ∙ ap T f
@@ -69,7 +69,7 @@ module _ (T : ℕ → Bool) (p : Plain T) where
   alone kind.Hexadecimal b r i h = absurd (false≢true h)
   alone (kind.Byte x) b r (w, e) h = alone-by x b r e
 
--- The first item of a text and its first byte.
+-- The first item of a text, and its first byte.
 pub record First (text : List ℕ) (i : Item) (items : List Item) : Type 0 where
   pub byte : ℕ
   pub rest : List ℕ
@@ -106,7 +106,7 @@ pub none-of : {text : List ℕ} {all : List Item} → AreItems text all → all 
 none-of ended e = refl
 none-of (next text k n rest l r) e = absurd (cc e)
 
--- The name bytes that a text begins with are those of its items.
+-- A text begins with as many name bytes as its items do.
 record Run (text : List ℕ) (items : List Item) : Type 0 where
   pub same : prefix_len is_name_item items ≡ prefix_len name_byte text
   pub bytes : bytes_of (take (prefix_len is_name_item items) items) ≡ take (prefix_len name_byte text) text
@@ -155,7 +155,7 @@ run text (i ∷ items) h =
 abbrev named : List ℕ → ℕ → Formal
 named b n = record { name = b; size = n }
 
--- a parameter by the items' run is that by the bytes
+-- a parameter by the run of its items is the one by the bytes
 named-by : (items : List Item) (n extra : ℕ) → n ≤ length items → formal (take n items) extra ≡ (if eqb n 0 then None else Some (named (bytes_of (take n items)) (n + extra)))
 named-by items zero extra l = refl
 named-by [] (suc n) extra l = absurd (omega (arith, l))
@@ -164,12 +164,12 @@ named-by (i ∷ items) (suc n) extra l =
     ap (λ m. Some (named (bytes_of (i ∷ take n items)) (m + extra))) e
     ∙ sym (ap (λ z. if z then None else Some (named (bytes_of (i ∷ take n items)) (suc n + extra))) (suc-eqb n))
 
--- The parameter that begins a text, by its items and by its bytes.
+-- The parameter at the beginning of a text, by its items and by its bytes.
 pub record SameFormal (text : List ℕ) (items : List Item) (f g : Option Formal) : Type 0 where
   pub same : f ≡ g
   pub skips : (x : Formal) → g ≡ Some x → (0 < x.size) × AreItems (drop x.size text) (drop x.size items)
 
--- after the run of a name, so many more bytes that are items
+-- the run of a name, and `extra` more bytes that are items
 run-formal : (text : List ℕ) (items : List Item) (extra : ℕ) → Run text items → formal (name_run items) extra ≡ formal_run text extra
 run-formal text items extra r =
     named-by items (prefix_len is_name_item items) extra (prefix_len-le-length is_name_item items)
@@ -201,7 +201,7 @@ bare a text j items h =
           );
     }
 
--- after the run of a name stands `}`
+-- a `}` follows the run of a name
 closed-same : (text : List ℕ) (items : List Item) → AreItems text items → is_closed items ≡ begins_with 125 text
 closed-same text [] h = sym (ap (begins_with 125) (none-of h refl))
 closed-same text (i ∷ items) h = let s = first-of h i items refl in s.same (eqb 125) plain-close ∙ sym (ap (begins_with 125) s.is)
@@ -278,7 +278,7 @@ formal-here text (i ∷ items) h =
 one-less : (n : ℕ) → suc n - 1 ≡ n
 one-less n = omega arith
 
--- what stands after a value's items
+-- what follows the items of a value
 pub replaced-skips : (value : List ℕ → Option (List ℕ)) (n : ℕ) (items : List Item) → replaced value n items ≡ replaced value 0 (drop n items)
 unfolding replaced
 replaced-skips value zero items = refl

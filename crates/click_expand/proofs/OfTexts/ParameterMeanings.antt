@@ -1,4 +1,4 @@
--- What stands for a parameter in an instance, and where it is read.
+-- The value of a parameter in an instance, and where it is read.
 use Rattle.std.proofs.Common.{◌≡◌, ℕ, zero, suc, ◌+◌, ◌-◌, ◌<◌, ◌≤◌, List, [], ◌∷◌, length, get_or, drop, Bool, true, false, cond, Option, Some, None, refl, sym, ap, ◌∙◌, subst, arith, length-take, length-drop, position}
 use Rattle.std.specs.Prelude.{if◌then◌else◌, option_map, option_and_then}
 use Rattle.std.specs.List.{slice_get, position_from}
@@ -71,7 +71,7 @@ module _ (text : List ℕ) (name : List ℕ) where
   argument-by fs values = argument-from fs values ∙ sym (ap (option_and_then (slice_get values)) (position_from-zero named fs))
 
 module _ (c : Config) (bindings : Bindings) (enclosing : List Scope) (text : List ℕ) where
-  -- an argument's value beside its place
+  -- the value of an argument has the same index
   pub value-beside : (spans : List Span) (values : List (List ℕ)) (i : ℕ) (s : Span) → AreValues c bindings enclosing text spans values → slice_get spans i ≡ Some s →
       (v : List ℕ) × (slice_get values i ≡ Some v) × IsReplaced c bindings enclosing (bytes_at text s) v
   value-beside [] values i s h e = absurd (cc e)
@@ -86,7 +86,7 @@ module _ (c : Config) (bindings : Bindings) (enclosing : List Scope) (text : Lis
   no-value (t ∷ spans) (v ∷ values) zero h e = absurd (cc e)
   no-value (t ∷ spans) (v ∷ values) (suc i) (next_value s' ss' v' vs' h r) e = no-value spans values i r e
 
--- what stands in the string of a scope's element
+-- the text in the configuration string of a scope's element
 pub string-is : (c : Config) (scopes : List ScopeKept) → AreAllScopes c scopes → (s : Scope) (visible : List Statement) (enclosing : List Scope) → Stands c s visible enclosing →
     (i : ℕ) (l : ScopeElement) → slice_get (elements_of_scope c s visible) i ≡ Some l → string_found c.text (slice_get scopes (table_place c s)) i ≡ l.text
 string-is c scopes known s visible enclosing st i l there =
@@ -116,7 +116,7 @@ module _ (c : Config) (instances : List InstanceKept) (places : List Place) (kno
   enclosing-at : (u : ℕ) (k : InstanceKept) (x : KnownInstance) (p : Place) → slice_get instances u ≡ Some k → slice_get known u ≡ Some x → k.enclosing ≡ Some p → IsEnclosing c known u x (Some p)
   enclosing-at u k x p h g e = subst (λ z. IsEnclosing c known u x z) e (use-at u k x h g).enclosing
 
-  -- the parameters of an instance's own body, and its arguments where they stand
+  -- the parameters of the body of an instance, and the places of its arguments
   pub own-value : (scopes : List ScopeKept) → AreAllScopes c scopes →
       (u : ℕ) (k j : InstanceKept) (x : KnownInstance) (p : Place) → k ≡ get_or instances u k → u < length instances → slice_get known u ≡ Some x → k.enclosing ≡ Some p → j ≡ get_or instances p.within j → p.within < u →
       (text name : List ℕ) (fs : List Span) (found : Option ℕ) → text ≡ c.text → fs ≡ body_formals (slice_get c.bodies k.scope) → found ≡ position (named text name) fs →
@@ -149,7 +149,7 @@ module _ (c : Config) (instances : List InstanceKept) (places : List Place) (kno
             (subst (λ z. AreValues c o.bindings (o.scope ∷ o.enclosing) i.scope_element.text i.spans z) own i.replaced)),
       )
 
--- no string is longer than the text
+-- no configuration string is longer than the text
 pub bytes-short : (text : List ℕ) (s : Span) → length (bytes_at text s) ≤ length text
 bytes-short text s = omega (arith, length-take (s.end - s.start) (drop s.start text), length-drop s.start text)
 

@@ -11,7 +11,7 @@ use Rattle.click_expand.specs.declared.instances.tree.Instance.{Instance as Inst
 abbrev pub value-of : Config → KnownInstance → List ℕ → Option (List ℕ)
 value-of c x name = value_in c x.bindings (x.scope ∷ x.enclosing) name
 
--- at both instances a parameter has the same value
+-- a parameter has the same value at both instances
 abbrev pub SameValue : Config → List InstanceKept → ℕ → ℕ → List ℕ → Type 0
 SameValue c instances from at name =
     (places : List Place) (known : List KnownInstance) (primitive_elements : List PrimitiveElement) (x : KnownInstance) → AreInstances c instances places known primitive_elements → slice_get known from ≡ Some x →

@@ -1,4 +1,4 @@
--- What is left to write of a text, and that writing it ends.
+-- The steps that are left to write a text, and why writing it ends.
 use Rattle.std.proofs.Common.{◌≡◌, ℕ, zero, suc, ◌+◌, ◌-◌, ◌<◌, ◌≤◌, List, [], ◌∷◌, ◌++◌, length, take, drop, get_or, Bool, true, false, Result, Ok, Err, IfOk, nat_eq, inl, inr, if◌then◌else◌, Some, refl, sym, ap, ◌∙◌, subst, arith, append_assoc, length-append}
 use Rattle.std.specs.List.{slice_get}
 use Rattle.std.specs.Map.{lookup}
@@ -167,7 +167,7 @@ module _ (c : Config) (known : List KnownInstance) where
         let k = steps-pop ss (step.Read r) text whole led in
         subst (λ z. AreSteps c known ss z whole) (k.2.1 ∙ ap (λ z. text ++ z) (read-none r k.2.0 e k.2.2) ∙ append-nil text) k.1
 
-    -- what the reading begins with is written, and the rest of it is to be read
+    -- the beginning of the reading is written, and the rest of it is still to be read
     led-first : (n : ℕ) (q : UnreadText) (new : List TextStep) (more first rest : List ℕ) → IsRest r n q → new ≡ ss ++ step.Read q ∷ [] → more ≡ text ++ first →
         (between : List ℕ) → AreSteps c known ss between whole → between ≡ text ++ (first ++ rest) → IsReadAt c known r.within (drop n r.rest.now) rest → AreSteps c known new more whole
     led-first n q new more first rest i e f between h g k =
@@ -203,7 +203,7 @@ module _ (c : Config) (known : List KnownInstance) where
           let a = ap length (own-once known v.argument own p.0 o p.4) in let m = steps-longer ss k.0 whole k.1 in let b = ap length (k.2.1 ∙ ap (λ z. text ++ z) p.2) in
           omega (arith, l, a, m, b, length-append text (p.0 ++ p.1), length-append p.0 p.1)
 
-    -- nor for bytes
+    -- there is no room for bytes
     pub full-bytes : (n room : ℕ) → ((p : List ℕ) → IsRead c known r p → Parts c known r.within r.rest.now p (part.Bytes n)) → room < length (take n r.rest.now) → room + length text < length whole
     full-bytes n room parts l =
         let k = steps-pop ss (step.Read r) text whole led in let p = parts k.2.0 k.2.2 in
@@ -215,11 +215,11 @@ module _ (c : Config) (known : List KnownInstance) where
       let k = steps-pop ss (step.Keep a start) text whole h in
       (subst (λ z. AreSteps c known ss z whole) k.2.0 k.1, k.2.2)
 
--- these steps are left of writing what is read first after what stood before
+-- these steps are left of writing the first reading after the text before
 abbrev pub AreLeft : Config → List InstanceKept → UnreadText → List ℕ → List TextStep → List ℕ → Type 0
 AreLeft c instances first before ss text = (places : List Place) (known : List KnownInstance) (primitive_elements : List PrimitiveElement) (whole : List ℕ) → AreInstances c instances places known primitive_elements → IsRead c known first whole → AreSteps c known ss text (before ++ whole)
 
--- each text can be read
+-- every text can be read
 read-any : (c : Config) (known : List KnownInstance) (r : UnreadText) → r.within < length known → (whole : List ℕ) × IsRead c known r whole
 read-any c known r l =
     let i = reading r.rest.now in let x = get_or known r.within the_whole in
@@ -282,7 +282,7 @@ module _ (c : Config) (instances : List InstanceKept) where
             subst (λ z. IsArgumentKept c instances z a s) (sym e) k
       ]
 
--- whether there was room or not
+-- in both cases: there was room, or there was none
 pub by-room : {E P Q R : Type 0} (r : Result Bool E) → IfOk r (λ fits. fits ≡ true → P) → IfOk r (λ fits. fits ≡ false → Q) → (P → R) → (Q → R) → IfOk r (λ _. R)
 by-room (Ok true) p q f g = f (p refl)
 by-room (Ok false) p q f g = g (q refl)

@@ -1,4 +1,4 @@
--- What a text begins with, and what is read of the rest.
+-- The beginning of a text, and what is read of the rest.
 use Rattle.std.proofs.Common.{◌≡◌, ℕ, zero, suc, ◌-◌, ◌<◌, List, [], ◌∷◌, ◌++◌, take, drop, Option, Some, None, refl, sym, ap, ◌∙◌, subst, arith}
 use Rattle.std.specs.Prelude.{option_map}
 use Rattle.std.specs.List.{slice_get}
@@ -21,7 +21,7 @@ use Rattle.click_expand.proofs.OfTexts.ParameterItems.{formal-here, replaced-ski
 use Rattle.click_expand.proofs.OfTexts.ParameterParents.{value-of}
 
 module _ (value : List ℕ → Option (List ℕ)) where
-  -- the first item of what is replaced
+  -- the first item of the result
   replaced-first : (i : Item) (items : List Item) (o : Option (List ℕ × ℕ)) → value_by value (formal_at (i ∷ items)) ≡ o →
       replaced value 0 (i ∷ items) ≡ found_bytes o i ++ replaced value (found_size o - 1) items
   unfolding replaced

@@ -1,4 +1,4 @@
--- A configuration has one list of primitive elements, and where it is sound it has one.
+-- A configuration has at most one list of flat elements, and a sound one has one.
 use Rattle.std.proofs.Common.{◌≡◌, ℕ, zero, suc, ◌+◌, ◌<◌, List, [], ◌∷◌, ◌++◌, Some, refl, sym, ap, ◌∙◌, subst, arith, Contains}
 use Rattle.click_base.specs.declared.class.Class.{Class}
 use Rattle.click_text.specs.declared.syntax.Span.{Span}
@@ -22,7 +22,7 @@ use Rattle.click_scopes.proofs.OfLists.ListParts.{contains-here, contains-behind
 use Rattle.click_scopes.proofs.OfBodies.EarlierBodies.{founded}
 use Rattle.click_expand.proofs.OfInstances.DistinctElements.{meant}
 
--- a text with its parameters replaced is one text
+-- a text with its parameters replaced is only one text
 pub replaced-once : (c : Config) (bindings : Bindings) (enclosing : List Scope) (text x y : List ℕ) → IsReplaced c bindings enclosing text x → IsReplaced c bindings enclosing text y → x ≡ y
 replaced-once c bindings enclosing text x y h k = h.replaces ∙ ap (replaced (value_in c bindings enclosing) 0) (items_once h.read k.read) ∙ sym k.replaces
 
@@ -45,7 +45,7 @@ module _ (c : Config) (bindings : Bindings) (enclosing : List Scope) (text : Lis
       let v = replaced-exists c bindings enclosing (bytes_at text s) in
       let r = values-exist ss in (v.0 ∷ r.0, next_value s ss v.0 r.0 v.1 r.1)
 
--- what an element is
+-- the meaning of an element
 both-meant : (l : ScopeElement) (w : Class) (b : ℕ) → l.meaning ≡ Some (primitive w) → l.meaning ≡ Some (compound b) → ⊥
 both-meant l w b h k = let e : Some (primitive w) ≡ Some (compound b) = sym h ∙ k in cc
 
@@ -74,7 +74,7 @@ same-branch inner others-inner primitive_elements others k j n m a b = (
   ap (λ x. x + n + 1) a.1 ∙ ap (λ x. j + x + 1) b.1,
 )
 
--- the primitive elements of a body's instance, with other names for the same
+-- the flat elements of the instance of a body, with equal values under other names
 module _ (c : Config) (path : List (List ℕ)) (bindings : Bindings) (inner : List PrimitiveElement) (n : ℕ) where
   abbrev AreInner : ℕ → List Statement → List Scope → List (List ℕ) → Type 0
   AreInner b visible outer values = ArePrimitiveElements c (inside b) outer path ((b, values) ∷ bindings) (elements_of_scope c (inside b) visible) inner n
@@ -87,7 +87,7 @@ module _ (c : Config) (nests : IsNested c) where
   stands-as : (b d : ℕ) (v w : List Statement) (o p : List Scope) → b ≡ d → Stands c (inside b) v o → Stands c (inside d) w p → (v ≡ w) × (o ≡ p)
   stands-as b d v w o p e h k = stands-once c nests (inside b) v w o p h (subst (λ x. Stands c (inside x) w p) (sym e) k)
 
-  -- elements of an instance have one list of primitive elements, and one number of paths
+  -- the elements of an instance have at most one list of flat elements, and one number of paths
   pub primitive_elements-same : (s : Scope) (enclosing : List Scope) (path : List (List ℕ)) (bindings : Bindings) (ls : List ScopeElement) (primitive_elements others : List PrimitiveElement) (n m : ℕ) →
       ArePrimitiveElements c s enclosing path bindings ls primitive_elements n → ArePrimitiveElements c s enclosing path bindings ls others m → (primitive_elements ≡ others) × (n ≡ m)
   primitive_elements-same s enclosing path bindings ls primitive_elements others n m (no_elements s1 a1 p1 b1) (no_elements s2 a2 p2 b2) = (refl, refl)
@@ -109,17 +109,17 @@ module _ (c : Config) (nests : IsNested c) where
       (inner-as c (path ++ l.name ∷ []) bindings inner2 i2 b d v w o p ys us eb es.0 es.1 ey a2'))
       (primitive_elements-same s enclosing path bindings rest more more2 k k2 r r2)
 
--- a configuration has one list of primitive elements
+-- a configuration has at most one list of flat elements
 pub primitive_elements-once : (c : Config) → IsNested c → (primitive_elements others : List PrimitiveElement) (n m : ℕ) → PrimitiveElementsOf c primitive_elements n → PrimitiveElementsOf c others m → (primitive_elements ≡ others) × (n ≡ m)
 primitive_elements-once c nests primitive_elements others n m h k = primitive_elements-same c nests whole [] [] [] (elements_of_scope c whole []) primitive_elements others n m h k
 
--- primitive elements that there are
+-- a list of flat elements exists
 pub record HasPrimitiveElements (c : Config) (s : Scope) (enclosing : List Scope) (path : List (List ℕ)) (bindings : Bindings) (ls : List ScopeElement) : Type 0 where
   pub primitive_elements : List PrimitiveElement
   pub paths : ℕ
   pub are : ArePrimitiveElements c s enclosing path bindings ls primitive_elements paths
 
--- the elements of an instance have primitive elements where the bodies before it have
+-- the elements of an instance have flat elements, if those of all bodies with lower indices have
 module _ (c : Config) (nests : IsNested c) (sound : IsFaultless c) (s : Scope) (visible : List Statement) (enclosing : List Scope) (stands : Stands c s visible enclosing) where
   abbrev HaveInner : Type 0
   HaveInner =
@@ -161,12 +161,12 @@ primitive_elements-within (suc fuel) c nests sound s visible enclosing stands l 
     has-primitive_elements c nests sound s visible enclosing stands path bindings (elements_of_scope c s visible)
     (λ b v o h k p q. primitive_elements-within fuel c nests sound (inside b) v o h (omega (arith, k, l)) p q) (λ x i. i)
 
--- the elements of each instance have primitive elements
+-- the elements of each instance have flat elements
 pub primitive_elements-at : (c : Config) → IsNested c → IsFaultless c → (s : Scope) (visible : List Statement) (enclosing : List Scope) → Stands c s visible enclosing → (path : List (List ℕ)) (bindings : Bindings) →
     HasPrimitiveElements c s enclosing path bindings (elements_of_scope c s visible)
 primitive_elements-at c nests sound s visible enclosing stands path bindings =
     primitive_elements-within (suc (table_place c s)) c nests sound s visible enclosing stands (omega arith) path bindings
 
--- a sound configuration has primitive elements
+-- a sound configuration has flat elements
 pub primitive_elements-exist : (c : Config) → IsNested c → IsFaultless c → (primitive_elements : List PrimitiveElement) × (n : ℕ) × PrimitiveElementsOf c primitive_elements n
 primitive_elements-exist c nests sound = let r = primitive_elements-at c nests sound whole [] [] at_top [] [] in (r.primitive_elements, r.paths, r.are)

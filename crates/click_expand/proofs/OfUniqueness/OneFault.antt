@@ -1,4 +1,4 @@
--- The configuration of a text has one fault: its wrong uses stand at tokens.
+-- The configuration of a text has at most one fault, because its misuses are at tokens.
 use Rattle.std.proofs.Common.{◌≡◌, inl, inr, ℕ, zero, suc, ◌<◌, List, [], ◌∷◌, ◌++◌, map, length, Option, Some, None, refl, sym, ap, subst, arith, Contains}
 use Rattle.std.specs.List.{slice_get}
 use Rattle.std.proofs.lemmas.List.Elements.{Contains-append_right, Contains-append_cases}
@@ -101,7 +101,7 @@ module _ (text : List ℕ) (c : Config) (nests : IsNested c) (h : StandsAtTokens
     first-has : (st : Statement) (e : Element) → Contains (statements_of c s) st → Contains (statement_elements st) e → P (first_token c e.head)
     first-has st e i j = first-by st e e.head i j refl (element-head P st e (each-has (OfStatement P) (statements_of c s) st (scope-statements s) i) j)
 
-    -- of an element that is written in the scope
+    -- the head of a written element
     written-head : (front back : List Placed) (p : Placed) → scope_placed c s visible ≡ front ++ p ∷ back → OfHead P p.element.head
     written-head front back p e =
         let r = placed-there visible (statements_of c s) p (split-has front p back (scope_placed c s visible) e) in
@@ -113,7 +113,7 @@ module _ (text : List ℕ) (c : Config) (nests : IsNested c) (h : StandsAtTokens
         let r = placed-there visible (statements_of c s) p (split-has front p back (scope_placed c s visible) e) in
         first-has r.statement p.element (split-has r.before r.statement r.after (statements_of c s) r.splits) r.there
 
-  -- both ends of a connection as written
+  -- both ends of a written connection
   abbrev OfWrittenConnection : WrittenConnection → Type 0
   OfWrittenConnection j = P j.from.first × P j.to.first
 
@@ -155,7 +155,7 @@ module _ (text : List ℕ) (c : Config) (nests : IsNested c) (h : StandsAtTokens
   written_connection-tokens s visible enclosing j st i =
       of-statements (scope_names c s visible) visible 0 (statements_of c s) j (λ x m e k. first-has s visible enclosing st x e m k) i
 
-  -- a wrong use stands at a token
+  -- a misuse is at a token
   wrong-token : (k : WrongUse) (w : Span) → IsWrong c k w → P w
   wrong-token k w (unknown_name s v a f b p x st e m q t n) = subst (λ y. P (first_token c y)) q (written-first s v a st f b p e)
   wrong-token k w (unknown_class s v a f b p x string st e q t n) = subst (λ y. P (first_token c y)) q (written-first s v a st f b p e)
@@ -174,11 +174,11 @@ module _ (text : List ℕ) (c : Config) (nests : IsNested c) (h : StandsAtTokens
   wrong-token k w (input_gap b v a p st l n) = brace-token b v a st
   wrong-token k w (output_gap b v a p st l n) = brace-token b v a st
 
--- what a text spells has its wrong uses at tokens
+-- the misuses of a configuration that a text spells are at tokens
 pub spelled-has-tokens : (text : List ℕ) (c : Config) → IsNested c → Spells text c → HasTokens c
 spelled-has-tokens text c nests spells k j s t h g e =
     let o = spelled-tokens text c spells in token-once text s t (wrong-token text c nests o k s h) (wrong-token text c nests o j t g) e
 
--- the configuration of a text has one fault
+-- the configuration of a text has at most one fault
 pub spelled-fault-once : (text : List ℕ) (c : Config) → IsNested c → Spells text c → (e d : ExpandFault) → IsFlatFault c e → IsFlatFault c d → e ≡ d
 spelled-fault-once text c nests spells e d h k = fault-once c nests (spelled-has-tokens text c nests spells) e d h k

@@ -1,4 +1,4 @@
--- A configuration has one flat form, or one fault.
+-- A configuration has at most one flat form, or one fault.
 use Rattle.std.proofs.Common.{◌≡◌, ◌⊎◌, inl, inr, ℕ, List, [], ◌∷◌, ◌++◌, map, true, false, Some, None, refl, sym, ap, ◌∙◌, subst, arith, Contains}
 use Rattle.std.specs.List.{All}
 use Rattle.std.proofs.lemmas.Bool.{false≢true}
@@ -23,7 +23,7 @@ use Rattle.click_scopes.proofs.OfLists.ListParts.{contains-here}
 use Rattle.click_expand.proofs.OfUniqueness.OneElementList.{primitive_elements-once}
 use Rattle.click_expand.proofs.OfUniqueness.OneOrder.{ordered-once, ordered-within}
 
--- primitive elements have one list of connections
+-- flat elements have at most one list of connections
 pub connections-once : (c : Config) (primitive_elements : List PrimitiveElement) (ks js : List Connection) → AreConnections c primitive_elements ks → AreConnections c primitive_elements js → ks ≡ js
 connections-once c primitive_elements ks js h k = ordered-once ks js h.in_order k.in_order (λ x i. k.complete x (h.sound x i)) (λ x i. h.complete x (k.sound x i))
 
@@ -33,14 +33,14 @@ flat es ks = record { elements = es; connections = ks }
 same-flat : (f g : Flat) → f.elements ≡ g.elements → f.connections ≡ g.connections → f ≡ g
 same-flat f g e k = ap (λ x. flat x f.connections) e ∙ ap (flat g.elements) k
 
--- a configuration has one flat form
+-- a configuration has at most one flat form
 pub flat-once : (c : Config) → IsNested c → (f g : Flat) → IsFlat c f → IsFlat c g → f ≡ g
 flat-once c nests f g h k =
     let e = (primitive_elements-once c nests h.primitive_elements k.primitive_elements h.paths k.paths h.meant.elements k.meant.elements).0 in
     same-flat f g (h.elements ∙ ap (map flat_element) e ∙ sym k.elements)
     (connections-once c k.primitive_elements f.connections g.connections (subst (λ x. AreConnections c x f.connections) e h.meant.connections) k.meant.connections)
 
--- what is within the limits passes none
+-- a configuration within the limits passes none
 within-all : (c : Config) (primitive_elements : List PrimitiveElement) (paths : ℕ) (ks : List Connection) → AreConnections c primitive_elements ks → WithinLimits primitive_elements paths ks → Exceeds c primitive_elements paths → ⊥
 within-all c primitive_elements paths ks a w (many_elements h) = let l = w.elements in omega arith
 within-all c primitive_elements paths ks a w (many_paths h) = let l = w.all_paths in omega arith
@@ -56,7 +56,7 @@ within-same c nests primitive_elements others n m ks h w k x =
     let e = primitive_elements-once c nests others primitive_elements m n k h.elements in
     within-all c primitive_elements n ks h.connections w (subst (Exceeds c primitive_elements) e.1 (subst (λ y. Exceeds c y m) e.0 x))
 
--- a name that stands before
+-- a name that occurs earlier
 twice-apart : (front back : List (List ℕ)) (n : List ℕ) → AreDistinct (front ++ n ∷ back) → Contains front n → ⊥
 twice-apart [] back n d i = contains-nil n i
 twice-apart (m ∷ front) back n d i =
@@ -78,7 +78,7 @@ primitive_element-broken primitive_elements front back l e a h =
     let i : Contains primitive_elements l = subst (λ x. Contains x l) (sym e) (Contains-append_right front (l ∷ back) l (contains-here l back)) in
     false≢true (sym h ∙ All-contains (λ (x : PrimitiveElement). is_whole x.text ≡ true) primitive_elements l a i)
 
--- what has a flat form has no fault
+-- a configuration with a flat form has no fault
 pub flat-no-fault : (c : Config) → IsNested c → (f : Flat) (e : ExpandFault) → IsFlat c f → IsFlatFault c e → ⊥
 flat-no-fault c nests f e h (wrong k s w) = h.meant.sound k s w.wrong
 flat-no-fault c nests f e h (too_many primitive_elements paths sound k x) = within-same c nests h.primitive_elements primitive_elements h.paths paths f.connections h.meant h.limits k x
@@ -89,7 +89,7 @@ flat-no-fault c nests f e h (broken primitive_elements front back l paths ks m w
     let q = (primitive_elements-once c nests h.primitive_elements primitive_elements h.paths paths h.meant.elements m.elements).0 in
     primitive_element-broken primitive_elements front back l s (subst AllWhole q h.texts) b
 
--- the first of some primitive elements of which something holds, and of none before it
+-- the first flat element for which a property holds is determined
 two-splits : (xs ys zs ws : List PrimitiveElement) (x z : PrimitiveElement) → xs ++ x ∷ ys ≡ zs ++ z ∷ ws → (x ≡ z) × (xs ≡ zs) ⊎ (((us : List PrimitiveElement) × (zs ≡ xs ++ x ∷ us)) ⊎ ((us : List PrimitiveElement) × (xs ≡ zs ++ z ∷ us)))
 two-splits [] ys [] ws x z e = let f : x ≡ z = cc in inl (f, refl)
 two-splits [] ys (c ∷ zs) ws x z e = let f : c ≡ x = cc in inr (inl (zs, ap (λ y. y ∷ zs) f))
@@ -121,11 +121,11 @@ broken-once primitive_elements xs ys zs ws x z e f a b k j =
       | inr (inr r) ↦ absurd (primitive_element-broken xs zs r.0 z r.1 a j)
     ]
 
--- wrong uses that begin at one place have one token
+-- misuses that begin at the same offset have the same token
 abbrev pub HasTokens : Config → Type 0
 HasTokens c = (k j : WrongUse) (s t : Span) → IsWrong c k s → IsWrong c j t → s.start ≡ t.start → s ≡ t
 
--- a configuration whose wrong uses stand at tokens has one fault
+-- a configuration whose misuses are at tokens has at most one fault
 pub fault-once : (c : Config) → IsNested c → HasTokens c → (e d : ExpandFault) → IsFlatFault c e → IsFlatFault c d → e ≡ d
 fault-once c nests tokens e d (wrong k s w) (wrong j t v) =
     let r = first-wrong-once c k j s t w v in

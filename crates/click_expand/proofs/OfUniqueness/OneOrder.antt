@@ -1,4 +1,5 @@
--- Connections in order: one list of the same, and none longer than one that has them all.
+-- Ordered lists of connections: two with the same connections are equal, and none is longer than
+-- one that has all of its connections.
 use Rattle.std.proofs.Common.{◌≡◌, inl, inr, ◌≤◌, List, [], ◌∷◌, length, refl, sym, ap, ◌∙◌, subst, arith, Contains}
 use Rattle.std.proofs.lemmas.List.Elements.{All-contains}
 use Rattle.click_expand.specs.declared.flat.Connection.{Connection}
@@ -18,7 +19,7 @@ Has xs ys = (k : Connection) → Contains xs k → Contains ys k
 first-before : (x : Connection) (xs : List Connection) (k : Connection) → AreOrdered (x ∷ xs) → Contains xs k → StandsBefore x k
 first-before x xs k o i = All-contains (StandsBefore x) xs k o.0 i
 
--- what stands after the first is no first
+-- a connection after the first is not the first
 has-behind : (x : Connection) (xs : List Connection) (y : Connection) (ys : List Connection) → x ≡ y → AreOrdered (x ∷ xs) → Has (x ∷ xs) (y ∷ ys) → Has xs ys
 has-behind x xs y ys e o f k i =
     elim (contains-cons y ys k (f k (contains-behind x xs k i))) [
@@ -36,7 +37,7 @@ first-same x xs y ys o p f g =
       ]
     ]
 
--- lists in order that have the same connections are equal
+-- ordered lists with the same connections are equal
 pub ordered-once : (xs ys : List Connection) → AreOrdered xs → AreOrdered ys → Has xs ys → Has ys xs → xs ≡ ys
 ordered-once [] [] o p f g = refl
 ordered-once [] (y ∷ ys) o p f g = absurd (contains-nil y (g y (contains-here y ys)))
@@ -45,7 +46,7 @@ ordered-once (x ∷ xs) (y ∷ ys) o p f g =
     let e = first-same x xs y ys o p f g in
     ap (λ z. z ∷ xs) e ∙ ap (λ zs. y ∷ zs) (ordered-once xs ys o.1 p.1 (has-behind x xs y ys e o f) (has-behind y ys x xs (sym e) p g))
 
--- where the other's first stands before this list's, it is none of this list's
+-- if the other list's first connection comes before this list's, it is not in this list
 has-past : (x : Connection) (xs : List Connection) (y : Connection) (ys : List Connection) → AreOrdered (x ∷ xs) → StandsBefore y x → Has (x ∷ xs) (y ∷ ys) → Has (x ∷ xs) ys
 has-past x xs y ys o b f k i =
     elim (contains-cons y ys k (f k i)) [
@@ -56,7 +57,7 @@ has-past x xs y ys o b f k i =
       | inr j ↦ j
     ]
 
--- a list in order is no longer than one that has all its connections
+-- an ordered list is no longer than one that has all its connections
 pub ordered-within : (xs ys : List Connection) → AreOrdered xs → AreOrdered ys → Has xs ys → length xs ≤ length ys
 ordered-within [] ys o p f = omega arith
 ordered-within (x ∷ xs) [] o p f = absurd (contains-nil x (f x (contains-here x xs)))

@@ -1,4 +1,4 @@
--- What a text spells stands at its tokens.
+-- The parts of a configuration that a text spells are at the tokens of the text.
 use Rattle.std.proofs.Common.{◌≡◌, ℕ, zero, suc, ◌+◌, ◌≤◌, List, [], ◌∷◌, take, drop, length, Option, Some, refl, sym, ap, ◌∙◌, subst, arith}
 use Rattle.std.proofs.lemmas.List.{length-take}
 use Rattle.click_text.specs.declared.syntax.Span.{Span}
@@ -25,21 +25,22 @@ use Rattle.click_text.proofs.OfPieces.OnePieceList.{same_len}
 use Rattle.click_scopes.specs.kept.Standing.{Each}
 use Rattle.click_scopes.proofs.OfLists.StatementTables.{each-append}
 
--- a token stands at that span
+-- the span is that of a token
 pub record IsToken (text : List ℕ) (s : Span) : Type 0 where
   pub piece : Piece
   pub size : ℕ
   pub ends : s.end ≡ s.start + size
   pub longest : Longest (drop s.start text) piece size
 
--- tokens that begin at one place are one
+-- tokens that begin at the same offset are the same
 pub token-once : (text : List ℕ) (s t : Span) → IsToken text s → IsToken text t → s.start ≡ t.start → s ≡ t
 token-once text s t h k e =
     let n = same_len (drop t.start text) h.piece k.piece h.size k.size (subst (λ x. Longest (drop x text) h.piece h.size) e h.longest) k.longest in
     let f : s.end ≡ t.end = h.ends ∙ ap (λ x. x + h.size) e ∙ ap (λ x. t.start + x) n ∙ sym k.ends in
     ap (λ x. span x s.end) e ∙ ap (span t.start) f
 
--- what holds of the span of a word or of a parameter, and of that of an open brace, which is one byte
+-- P holds of the span of a word or a parameter, and of the span of an opening brace, which is one
+-- byte
 abbrev Marks : (Span → Type 0) → Token → Type 0
 Marks P (token.Word s) = P s
 Marks P (token.Formal s) = P s
@@ -102,7 +103,7 @@ module _ (text : List ℕ) where
   )
   reads-marks at left ts e q (stuck at' left' l f) = tt
 
--- what holds of the words, parameters and braces of a tree
+-- P holds of the words, parameters and braces of a tree
 module _ (P : Span → Type 0) where
   abbrev pub OfClass : ClassReference → Type 0
   OfClass (class.Named s) = P s
@@ -129,7 +130,7 @@ module _ (P : Span → Type 0) where
     pub formals : Each P b.formals
     pub statements : Each OfStatement b.statements
 
-  -- what is left of tokens, and the bodies that are closed
+  -- P holds of the tokens that are left, and of the bodies that were closed
   abbrev Rest : List Token → List Body → Type 0 → Type 0
   Rest ts bs T = Each (Marks P) ts × Each OfBody bs × T
 
@@ -207,7 +208,7 @@ module _ (P : Span → Type 0) where
         let k = statements-rest q h.0 h.1 in
         (k.0, k.1, (h.2, k.2))
 
--- The words, parameters and braces of what a text spells stand at its tokens.
+-- The words, parameters and braces of a configuration are at the tokens of its text.
 pub record StandsAtTokens (text : List ℕ) (c : Config) : Type 0 where
   pub statements : Each (OfStatement (IsToken text)) c.statements
   pub bodies : Each (OfBody (IsToken text)) c.bodies

@@ -1,4 +1,5 @@
--- What the code answers on its way from a sound configuration to the flat form.
+-- The results of the code on the way from a sound configuration to its flat form. Sound means
+-- without a misuse.
 use Rattle.std.specs.Prelude.{◌≡◌, ℕ, List, [], ◌∷◌, ◌++◌, map, All, Contains, true, false, slice_get, Option, Some, None}
 use Rattle.click_text.specs.declared.syntax.Head.{Head}
 use Rattle.click_text.specs.declared.syntax.Config.{Config}
@@ -17,7 +18,8 @@ use Rattle.click_expand.specs.declared.instances.tree.Instance.{Instance as Inst
 use Rattle.click_expand.specs.declared.flattening.Refusal.{Refusal}
 use Rattle.click_expand.specs.declared.flattening.Refusal.TheVariants as refused
 
--- the elements and connections within the limits, of what may yet have a repeated name or a broken text
+-- the elements and connections are within the limits; a name may still be repeated, or a text
+-- broken
 pub record IsExpanded (c : Config) (primitive_elements : List PrimitiveElement) (paths : ℕ) (f : Flat) : Type 0 where
   pub elements : f.elements ≡ map flat_element primitive_elements
   pub connections : AreConnections c primitive_elements f.connections
@@ -27,7 +29,8 @@ abbrev pub IsExpandedOr : Config → List PrimitiveElement → ℕ → Option Fl
 IsExpandedOr c primitive_elements paths None = Exceeds c primitive_elements paths
 IsExpandedOr c primitive_elements paths (Some f) = IsExpanded c primitive_elements paths f
 
--- why these elements are refused: the first whose name an earlier one has, else the first whose text is broken
+-- why these elements are refused: the first one with the name of an earlier one, or else the first
+-- one with a broken text
 abbrev pub IsRefusedOf : List PrimitiveElement → Option Refusal → Type 0
 IsRefusedOf primitive_elements None = AreDistinct (flat_names primitive_elements) × All (λ (l : PrimitiveElement). is_whole l.text ≡ true) primitive_elements
 IsRefusedOf primitive_elements (Some refused.NoMemory) = ⊥
@@ -46,19 +49,19 @@ IsRefused c (refused.At k s) = IsFlatFault c (expand_fault k (Some s) [])
 IsRefused c refused.TooMany = IsFlatFault c (expand_fault kind.TooMany None [])
 IsRefused c (refused.Broken name) = IsFlatFault c (expand_fault kind.BrokenText None name)
 
--- why what has a wrong use has none
+-- the refusal for a fault of the scopes
 abbrev pub refusal_for : ScopeFault → Refusal
 refusal_for scope_fault.NoMemory = refused.NoMemory
 refusal_for (scope_fault.Wrong w) = refused.At (kind.Use w.kind) w.span
 
--- the fault that tells it
+-- the fault that reports a refusal
 abbrev pub fault_for : Refusal → ExpandFault
 fault_for refused.NoMemory = no_memory
 fault_for (refused.At k s) = expand_fault k (Some s) []
 fault_for refused.TooMany = expand_fault kind.TooMany None []
 fault_for (refused.Broken name) = expand_fault kind.BrokenText None name
 
--- what the flat element at a place begins with
+-- the head of the flat element at an index
 abbrev pub instance_head : List ScopeKept → ℕ → Option InstanceKept → Option Head
 instance_head scopes i None = None
 instance_head scopes i (Some k) = scope_head i (slice_get scopes k.scope)

@@ -1,4 +1,4 @@
--- What one step of the walk over the instances does.
+-- One step of the walk over the instances.
 use Rattle.std.specs.Prelude.{◌≡◌, ◌<◌, ◌++◌, ℕ, List, [], ◌∷◌, length, slice_get, slice_set, eqb, Bool, true, false, Option, Some, None, if◌then◌else◌}
 use Rattle.click_scopes.specs.declared.classes.ResolvedClass.{ResolvedClass}
 use Rattle.click_scopes.specs.declared.classes.ResolvedClass.TheVariants as class
@@ -13,7 +13,7 @@ use Rattle.click_expand.specs.declared.instances.tree.NextElement.{NextElement}
 use Rattle.click_expand.specs.declared.instances.tree.NextElement.TheVariants as next
 use Rattle.click_expand.specs.declared.instances.tree.Walk.{Walk}
 
--- what stands next among the elements of a scope
+-- what comes next among the elements of a scope
 abbrev pub next_class : Option ResolvedClass → NextElement
 next_class None = next.Flat
 next_class (Some (class.Primitive s)) = next.Flat
@@ -26,7 +26,7 @@ next_of_scope_element (Some l) = next_class l.class
 abbrev pub next_in : List ScopeElement → ℕ → NextElement
 next_in ls i = next_of_scope_element (slice_get ls i)
 
--- an instance that has no parts yet
+-- an instance without parts
 abbrev pub instance_without_parts : ℕ → Option Place → Option ℕ → Instance
 instance_without_parts scope enclosing lexical_parent = record { scope = scope; enclosing = enclosing; lexical_parent = lexical_parent; parts = [] }
 
@@ -37,33 +37,33 @@ with_part k p = record { scope = k.scope; enclosing = k.enclosing; lexical_paren
 abbrev pub element_place : ℕ → ℕ → Place
 element_place within element = record { within = within; element = element }
 
--- each instance that one leads to from lexical parent to lexical parent has a smaller place
+-- the lexical parent of each instance has a lower index
 abbrev pub AreInward : List Instance → Type 0
 AreInward instances = (u : ℕ) (k : Instance) (w : ℕ) → slice_get instances u ≡ Some k → k.lexical_parent ≡ Some w → w < u
 
--- the instance to look at after one that is not of that scope
+-- the next instance to look at: none if this one is of the scope
 abbrev pub lexical_parent_by : ℕ → Instance → Option ℕ
 lexical_parent_by scope k = if eqb k.scope scope then None else k.lexical_parent
 
--- from one instance to another by lexical parents that are not of that scope
+-- the lexical parents lead from instance u to this instance, with none of the scope between
 pub data Follows (instances : List Instance) (scope : ℕ) : ℕ → ℕ → Type 0 where
   here : (u : ℕ) → Follows instances scope u u
   after_lexical_parent : (u w v : ℕ) (k : Instance) → Follows instances scope u w → slice_get instances w ≡ Some k → lexical_parent_by scope k ≡ Some v → Follows instances scope u v
 
--- the first instance of that scope from lexical parent to lexical parent, or the last instance on this way
+-- the nearest instance of the scope among the lexical parents of u, or the last of them
 pub record IsLexicalParentIn (instances : List Instance) (scope u w : ℕ) : Type 0 where
   pub follows : Follows instances scope u w
   pub instance_kept : Instance
   pub there : slice_get instances w ≡ Some instance_kept
   pub ends : lexical_parent_by scope instance_kept ≡ None
 
--- A flat element is added to the instance at which the walk is.
+-- A flat element is added to the current instance of the walk.
 pub record AddsFlatElement (old new : Walk) (k : Instance) : Type 0 where
   pub instances : new.instances.items ≡ slice_set old.instances.items old.place (with_part k (part.PrimitiveElement (length old.primitive_elements.items)))
   pub primitive_elements : new.primitive_elements.items ≡ old.primitive_elements.items ++ element_place old.place (length k.parts) ∷ []
   pub place : new.place ≡ old.place
 
--- The instance of a body is added, and the walk goes there.
+-- The instance of a body is added, and becomes the current one.
 pub record IsEntered (scopes : List ScopeKept) (body : ℕ) (old new : Walk) (k : Instance) : Type 0 where
   pub lexical_parent : ℕ
   pub lexical_parent_in : IsLexicalParentIn old.instances.items (parent_by (slice_get scopes body)) old.place lexical_parent
@@ -73,7 +73,7 @@ pub record IsEntered (scopes : List ScopeKept) (body : ℕ) (old new : Walk) (k 
   pub primitive_elements : new.primitive_elements.items ≡ old.primitive_elements.items
   pub place : new.place ≡ length old.instances.items
 
--- The walk goes to the instance around, or ends.
+-- The walk goes on at the instance around the current one, or ends.
 abbrev pub IsLeft : Option Place → Walk → Walk → Bool → Type 0
 IsLeft None old new more = (more ≡ false) × (new.instances.items ≡ old.instances.items) × (new.primitive_elements.items ≡ old.primitive_elements.items)
 IsLeft (Some p) old new more = (more ≡ true) × (new.instances.items ≡ old.instances.items) × (new.primitive_elements.items ≡ old.primitive_elements.items) × (new.place ≡ p.within)
@@ -83,7 +83,7 @@ IsWalkStepBy scopes old new k (next.Inner b) more = (more ≡ true) × IsEntered
 IsWalkStepBy scopes old new k next.Flat more = (more ≡ true) × AddsFlatElement old new k
 IsWalkStepBy scopes old new k next.Nothing more = IsLeft k.enclosing old new more
 
--- one step of the walk, and whether there are more
+-- one step of the walk, and whether more follow
 abbrev pub IsWalkStep : List ScopeKept → Walk → Walk → Bool → Type 0
 IsWalkStep scopes old new more =
     (k : Instance) × (slice_get old.instances.items old.place ≡ Some k) × IsWalkStepBy scopes old new k (next_in (elements_by (slice_get scopes k.scope)) (length k.parts)) more

@@ -1,4 +1,4 @@
--- The instances of scopes, as the code keeps them: the whole text, and each compound that a path leads to.
+-- The stored instances of scopes: the whole text, and each compound that a path leads to.
 use Rattle.std.specs.Prelude.{◌≡◌, ℕ, ◌<◌, List, [], ◌∷◌, ◌++◌, length, slice_get, Option, Some, None}
 use Rattle.click_base.specs.declared.class.Class.{Class}
 use Rattle.click_text.specs.declared.syntax.Span.{Span}
@@ -17,8 +17,9 @@ use Rattle.click_expand.specs.declared.instances.tree.InstancePart.TheVariants a
 use Rattle.click_expand.specs.declared.instances.tree.Place.{Place}
 use Rattle.click_expand.specs.declared.instances.tree.Instance.{Instance as InstanceKept}
 
--- An instance of a scope in the words of the definitions: its scope, what is visible before it and the scopes around it, the local names on the way to it,
--- and the arguments of the bodies on the way.
+-- An instance of a scope in terms of the definitions: its scope, what is visible before it, and the
+-- scopes around it. Also the local names on the way to it, and the arguments of the bodies on the
+-- way.
 pub record KnownInstance : Type 0 where
   pub scope : Scope
   pub visible : List Statement
@@ -32,7 +33,7 @@ the_whole = record { scope = whole; visible = []; enclosing = []; path = []; bin
 abbrev pub scope_elements_at : Config → KnownInstance → List ScopeElement
 scope_elements_at c x = elements_of_scope c x.scope x.visible
 
--- this instance stands in another at one of its elements, with that element's arguments
+-- x is the instance of an element of the instance o, with the arguments of that element
 pub record IsInner (c : Config) (o x : KnownInstance) (element : ℕ) : Type 0 where
   pub scope_element : ScopeElement
   pub there : slice_get (scope_elements_at c o) element ≡ Some scope_element
@@ -46,19 +47,20 @@ pub record IsInner (c : Config) (o x : KnownInstance) (element : ℕ) : Type 0 w
   pub replaced : AreValues c o.bindings (o.scope ∷ o.enclosing) scope_element.text spans values
   pub bindings : x.bindings ≡ (body, values) ∷ o.bindings
 
--- where an instance stands: one with a smaller place is around it
+-- the place of an instance: in an instance with a lower index, or none for the whole text
 abbrev pub IsEnclosing : Config → List KnownInstance → ℕ → KnownInstance → Option Place → Type 0
 IsEnclosing c known u x None = (u ≡ 0) × (x ≡ the_whole)
 IsEnclosing c known u x (Some p) = (p.within < u) × ((o : KnownInstance) × (slice_get known p.within ≡ Some o) × IsInner c o x p.element)
 
--- the instance of the scope that its scope stands in: there the scopes around have the same arguments
+-- the lexical parent of an instance: the instance of the scope around its scope; the scopes around
+-- have the same arguments there
 abbrev pub IsLexicalParent : Config → List KnownInstance → ℕ → KnownInstance → Option ℕ → Type 0
 IsLexicalParent c known u x None = x.enclosing ≡ []
 IsLexicalParent c known u x (Some w) =
     (w < u) × ((y : KnownInstance) × (slice_get known w ≡ Some y) × (x.enclosing ≡ y.scope ∷ y.enclosing)
     × ((name : List ℕ) → value_in c x.bindings x.enclosing name ≡ value_in c y.bindings (y.scope ∷ y.enclosing) name))
 
--- an element of an instance: a flat element at that place, or an instance of a body that stands there
+-- a part of an instance: a flat element at that place, or an instance of a body at that place
 abbrev pub IsPart : List InstanceKept → List Place → ℕ → ℕ → ScopeElement → InstancePart → Type 0
 IsPart instances places u i l (part.PrimitiveElement n) =
     (class : Class) × (l.meaning ≡ Some (primitive class)) × ((p : Place) × (slice_get places n ≡ Some p) × (p.within ≡ u) × (p.element ≡ i))
@@ -77,10 +79,10 @@ pub record IsInstance (c : Config) (instances : List InstanceKept) (places : Lis
   pub enclosing : IsEnclosing c known u x k.enclosing
   pub lexical_parent : IsLexicalParent c known u x k.lexical_parent
   pub parts : AreParts c instances places u x k.parts
-  -- it is the part that it says it is
+  -- it is the part that its place names
   pub own : (p : Place) → k.enclosing ≡ Some p → (o : InstanceKept) × (slice_get instances p.within ≡ Some o) × (slice_get o.parts p.element ≡ Some (part.Inner u))
 
--- a flat element stands at that element of an instance
+-- a flat element is at that place in an instance
 pub record IsPrimitiveElement (c : Config) (instances : List InstanceKept) (known : List KnownInstance) (n : ℕ) (p : Place) (f : PrimitiveElement) : Type 0 where
   pub instance_kept : InstanceKept
   pub instance_there : slice_get instances p.within ≡ Some instance_kept
@@ -94,7 +96,8 @@ pub record IsPrimitiveElement (c : Config) (instances : List InstanceKept) (know
   pub text : IsReplaced c used.bindings (used.scope ∷ used.enclosing) scope_element.text f.text
   pub first : f.first ≡ first_token c scope_element.head
 
--- These are the instances of the configuration's scopes, the whole text the first, and the places of its flat elements in their order.
+-- These are the instances of the configuration's scopes, with the whole text first, and the places
+-- of its flat elements in order.
 pub record AreInstances (c : Config) (instances : List InstanceKept) (places : List Place) (known : List KnownInstance) (primitive_elements : List PrimitiveElement) : Type 0 where
   pub as_many : length known ≡ length instances
   pub as_many_primitive_elements : length places ≡ length primitive_elements

@@ -1,4 +1,4 @@
--- The texts that stand for parameters, as the code finds them.
+-- The values of parameters, in the form in which the code finds them.
 use Rattle.std.specs.Prelude.{◌≡◌, ℕ, List, [], ◌∷◌, slice_get, Option, Some, None}
 use Rattle.click_text.specs.declared.syntax.Config.{Config}
 use Rattle.click_expand.specs.Parameters.{Bindings, IsReplaced}
@@ -7,20 +7,20 @@ use Rattle.click_expand.specs.declared.texts.parameter_values.UnreadText.{Unread
 use Rattle.click_expand.specs.declared.texts.parameter_values.Argument.{Argument}
 use Rattle.click_expand.specs.declared.texts.parameter_values.ParameterValue.{ParameterValue}
 
--- with its parameters replaced by what they are in its instance, a text is this one
+-- `out` is the unread text with its parameters replaced by their values in its instance
 abbrev pub IsRead : Config → List KnownInstance → UnreadText → List ℕ → Type 0
 IsRead c known r out = (x : KnownInstance) × (slice_get known r.within ≡ Some x) × IsReplaced c x.bindings (x.scope ∷ x.enclosing) r.rest.now out
 
--- the arguments of the body that an instance is of
+-- the arguments of the body of an instance
 abbrev pub own_arguments : Bindings → List (List ℕ)
 own_arguments [] = []
 own_arguments (b ∷ bindings) = b.1
 
--- the argument, with its parameters replaced, is this text
+-- v is the argument, with its parameters replaced
 abbrev pub IsOwn : List KnownInstance → Argument → List ℕ → Type 0
 IsOwn known a v = (x : KnownInstance) × (slice_get known a.within ≡ Some x) × (slice_get (own_arguments x.bindings) a.place ≡ Some v)
 
--- a parameter's value is what is read there, and it is that argument
+-- the value of a parameter is the text that is read there, and is that argument
 abbrev pub IsValue : Config → List KnownInstance → Option ParameterValue → Option (List ℕ) → Type 0
 IsValue c known None o = o ≡ None
 IsValue c known (Some r) o = (v : List ℕ) × (o ≡ Some v) × IsRead c known r.reading v × IsOwn known r.argument v

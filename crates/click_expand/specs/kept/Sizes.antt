@@ -1,11 +1,11 @@
--- How much a configuration stands for, as the code counts it: up to one more than the limits.
+-- The size of a configuration as the code counts it, up to the limits plus one.
 use Rattle.std.specs.Prelude.{◌≡◌, ℕ, ◌+◌, List, length, min}
 use Rattle.click_text.specs.declared.syntax.Config.{Config}
 use Rattle.click_expand.specs.Instances.{PrimitiveElement, PrimitiveElementsOf}
 use Rattle.click_expand.specs.Flat.{most_elements, most_paths}
 use Rattle.click_expand.specs.declared.instances.sizes.Size.{Size}
 
--- the numbers of primitive elements and of paths, or one more than the limit of each
+-- the numbers of flat elements and of paths, or the limit plus one
 pub record IsSize (primitive_elements : List PrimitiveElement) (paths : ℕ) (size : Size) : Type 0 where
   pub elements : size.elements ≡ min (length primitive_elements) (most_elements + 1)
   pub all_paths : size.paths ≡ min paths (most_paths + 1)

@@ -1,4 +1,4 @@
--- Parameters of texts by their bytes, as the code finds them.
+-- Parameters of texts by their bytes, in the form in which the code finds them.
 use Rattle.std.specs.Prelude.{ℕ, ◌+◌, List, [], ◌∷◌, take, drop, Bool, false, eqb, Option, Some, None, if◌then◌else◌}
 use Rattle.std.specs.List.{prefix_len}
 use Rattle.click_text.specs.Pieces.{name_byte}
@@ -6,11 +6,12 @@ use Rattle.click_text.specs.Spans.{bytes_at}
 use Rattle.click_expand.specs.Parameters.{Formal}
 use Rattle.click_expand.specs.declared.texts.parameters.Parameter.{Parameter}
 
--- a parameter that begins the text
+-- the parameter at the beginning of a text
 abbrev pub formal_of : List ℕ → Parameter → Formal
 formal_of text p = record { name = bytes_at text p.name; size = p.size }
 
--- The name bytes that a text begins with, and so many more, are a parameter.
+-- The parameter whose name is the first n bytes of a text, and which has `extra` further bytes;
+-- none if n is 0.
 abbrev pub formal_by : List ℕ → ℕ → ℕ → Option Formal
 formal_by text n extra = if eqb n 0 then None else Some (record { name = take n text; size = n + extra })
 
@@ -21,7 +22,7 @@ abbrev pub begins_with : ℕ → List ℕ → Bool
 begins_with b [] = false
 begins_with b (x ∷ text) = eqb b x
 
--- after `$`
+-- the parameter after `$`
 abbrev pub formal_after : List ℕ → Option Formal
 formal_after [] = None
 formal_after (b ∷ text) =

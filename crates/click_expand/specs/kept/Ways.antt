@@ -13,7 +13,7 @@ instance_name scopes i (Some k) = scope_name i (slice_get scopes k.scope)
 abbrev pub name_of_place : List ScopeKept → List InstanceKept → Place → List ℕ
 name_of_place scopes instances p = instance_name scopes p.element (slice_get instances p.within)
 
--- where an instance stands, if that is in one with a smaller place
+-- the place of an instance, if it is in an instance with a lower index
 abbrev pub smaller : Option Place → ℕ → Option Place
 smaller None u = None
 smaller (Some p) u = if nat_lt p.within u then Some p else None
@@ -25,7 +25,7 @@ enclosing_of_instance (Some k) u = smaller k.enclosing u
 abbrev pub enclosing_in : List InstanceKept → ℕ → Option Place
 enclosing_in instances u = enclosing_of_instance (slice_get instances u) u
 
--- names, each with `/` after it
+-- the names, each followed by `/`
 abbrev pub slashed : List (List ℕ) → List ℕ
 slashed [] = []
 slashed (n ∷ ns) = n ++ 47 ∷ slashed ns

@@ -1,4 +1,5 @@
--- How the connections of a flat configuration are found: from a port of an instance of a scope, one step of the scopes' indices after another.
+-- The search for the connections of a flat configuration: from a port of an instance of a scope,
+-- one step of the scopes' indices after another.
 use Rattle.std.specs.Prelude.{◌≡◌, ℕ, List, [], ◌∷◌, ◌++◌, map, slice_get, nat_eq, Bool, true, false, ◌&&◌, Contains, Option, Some, None}
 use Rattle.std.specs.Map.{lookup}
 use Rattle.click_scopes.specs.declared.written_connections.Owner.{Owner}
@@ -40,14 +41,14 @@ same_port a b = same_owner a.owner b.owner && nat_eq a.number b.number
 abbrev pub same_start : InstancePort → InstancePort → Bool
 same_start a b = nat_eq a.within b.within && same_port a.port b.port
 
--- a connection as written leads from one port of its scope to another
+-- a written connection leads from port a to port b of its scope
 pub record IsJoined (ks : List WrittenConnection) (a b : ScopePort) : Type 0 where
   pub written_connection : WrittenConnection
   pub there : Contains ks written_connection
   pub from : a ≡ scope_port written_connection.from.owner written_connection.out_port
   pub to : b ≡ scope_port written_connection.to.owner written_connection.in_port
 
--- the ports that those at a port are joined to
+-- the ports that connections lead to from a port
 abbrev pub ends_of : PortEnds → List ScopePort
 ends_of (One b) = b ∷ []
 ends_of (Several v) = v.items
@@ -59,7 +60,7 @@ ends_or_none (Some v) = ends_of v
 abbrev pub ends_in : List (ScopePort × PortEnds) → ScopePort → List ScopePort
 ends_in entries a = ends_or_none (lookup (same_port a) entries)
 
--- the index has for each port those that connections as written lead to
+-- the index has, for each port, exactly the ports that written connections lead to from it
 pub record IsIndex (ks : List WrittenConnection) (entries : List (ScopePort × PortEnds)) : Type 0 where
   pub sound : (a b : ScopePort) → Contains (ends_in entries a) b → IsJoined ks a b
   pub complete : (a b : ScopePort) → IsJoined ks a b → Contains (ends_in entries a) b
@@ -71,24 +72,24 @@ AreIndices [] (x ∷ xs) = ⊥
 AreIndices (k ∷ all) [] = ⊥
 AreIndices (k ∷ all) (x ∷ xs) = IsIndex k.connections x.ends.entries × AreIndices all xs
 
--- out of an instance that stands there
+-- the port outside an instance that is at this place
 abbrev pub outward : Option Place → ℕ → Reached
 outward None n = next.Nothing
 outward (Some p) n = next.Start (instance_port p.within (scope_port (owner.Element p.element) n))
 
--- into an element
+-- the port inside an element
 abbrev pub inward : Option InstancePart → ℕ → Reached
 inward None n = next.Nothing
 inward (Some (part.PrimitiveElement l)) n = next.PrimitiveElement (flat_input l n)
 inward (Some (part.Inner v)) n = next.Start (instance_port v (scope_port owner.Input n))
 
--- what lies behind a port that a connection leads to, in that instance
+-- what a connection to this port leads to, in that instance
 abbrev pub reached_by : Instance → Owner → ℕ → Reached
 reached_by k owner.Input n = next.Nothing
 reached_by k owner.Output n = outward k.enclosing n
 reached_by k (owner.Element i) n = inward (slice_get k.parts i) n
 
--- one connection leads on from a start
+-- one connection leads from the start s to n
 pub record StepsTo (instances : List Instance) (indices : List ConnectionIndex) (s : InstancePort) (n : Reached) : Type 0 where
   pub used : Instance
   pub instance_is_there : slice_get instances s.within ≡ Some used
@@ -98,11 +99,11 @@ pub record StepsTo (instances : List Instance) (indices : List ConnectionIndex) 
   pub joined : Contains (ends_in index.ends.entries s.port) to
   pub is : n ≡ reached_by used to.owner to.number
 
--- what lies behind each of these ports in an instance
+-- what connections to these ports lead to, in an instance
 abbrev pub all_reached : Instance → List ScopePort → List Reached
 all_reached k ends = map (λ (e : ScopePort). reached_by k e.owner e.number) ends
 
--- connections lead on from a start to an input of a flat element
+-- connections lead from a start to an input of a flat element
 pub data Arrives (instances : List Instance) (indices : List ConnectionIndex) : InstancePort → FlatInput → Type 0 where
   at_once : (s : InstancePort) (i : FlatInput) → StepsTo instances indices s (next.PrimitiveElement i) → Arrives instances indices s i
   after_connection : (s t : InstancePort) (i : FlatInput) → StepsTo instances indices s (next.Start t) → Arrives instances indices t i → Arrives instances indices s i
@@ -110,13 +111,13 @@ pub data Arrives (instances : List Instance) (indices : List ConnectionIndex) : 
 abbrev pub connection : ℕ → ℕ → FlatInput → Connection
 connection primitive_element number i = record { from = primitive_element; out_port = number; to = i.primitive_element; in_port = i.number }
 
--- a connection from a flat element, found by a search from there
+-- a connection from a flat element, found by a search from it
 pub record IsFrom (instances : List Instance) (indices : List ConnectionIndex) (primitive_element : ℕ) (s : InstancePort) (k : Connection) : Type 0 where
   pub to : FlatInput
   pub arrives : Arrives instances indices s to
   pub is : k ≡ connection primitive_element s.port.number to
 
--- a connection from that port of an instance, which is an output of a flat element
+-- a connection from this port of an instance, which is an output of a flat element
 pub record IsFromPort (instances : List Instance) (indices : List ConnectionIndex) (within : ℕ) (p : ScopePort) (k : Connection) : Type 0 where
   pub used : Instance
   pub there : slice_get instances within ≡ Some used
@@ -130,12 +131,12 @@ pub record IsFromInstance (instances : List Instance) (indices : List Connection
   pub port : ScopePort
   pub is_from : IsFromPort instances indices within port k
 
--- a connection of flat elements
+-- a connection between flat elements
 pub record Connects (instances : List Instance) (indices : List ConnectionIndex) (k : Connection) : Type 0 where
   pub within : ℕ
   pub is_from : IsFromInstance instances indices within k
 
--- further parts stand after these, each of them such a part
+-- `new` has further items after `old`, and P holds of each of them
 pub record Gains {X : Type 0} (P : X → Type 0) (old new : List X) : Type 0 where
   pub more : List X
   pub is : new ≡ old ++ more
@@ -148,11 +149,11 @@ HasAll {X} P xs = (x : X) → P x → Contains xs x
 abbrev pub IsOn : List Reached → InstancePort → Type 0
 IsOn ns s = Contains ns (next.Start s)
 
--- a connection from an output to an input that is among these
+-- a connection from the output to an input that is among these
 abbrev pub IsConnectionInto : ℕ → ℕ → List Reached → Connection → Type 0
 IsConnectionInto primitive_element number ns k = (i : FlatInput) × Contains ns (next.PrimitiveElement i) × (k ≡ connection primitive_element number i)
 
--- the starts that are seen and the connections that are found after these are taken
+-- the starts that were seen, and the connections that were found, before and after these are taken
 pub record Takes (primitive_element number : ℕ) (ns : List Reached) (seen_old seen_new : List InstancePort) (found_old found_new : List Connection) : Type 0 where
   pub seen : Gains (IsOn ns) seen_old seen_new
   pub seen_all : HasAll (IsOn ns) seen_new
@@ -163,7 +164,8 @@ pub record Takes (primitive_element number : ℕ) (ns : List Reached) (seen_old 
 abbrev pub IsAtOnce : List Instance → List ConnectionIndex → InstancePort → ℕ → ℕ → Connection → Type 0
 IsAtOnce instances indices s primitive_element number k = (i : FlatInput) × StepsTo instances indices s (next.PrimitiveElement i) × (k ≡ connection primitive_element number i)
 
--- the same after one connection from a start
+-- the starts that were seen, and the connections that were found, before and after one connection
+-- from a start
 pub record Visits (instances : List Instance) (indices : List ConnectionIndex) (s : InstancePort) (primitive_element number : ℕ) (seen_old seen_new : List InstancePort) (found_old found_new : List Connection) : Type 0 where
   pub seen : Gains (λ t. StepsTo instances indices s (next.Start t)) seen_old seen_new
   pub seen_all : HasAll (λ t. StepsTo instances indices s (next.Start t)) seen_new

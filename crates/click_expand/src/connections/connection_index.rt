@@ -1,4 +1,4 @@
-//! The connections of a scope by the ports that they begin at, and what lies behind the ports that they lead to.
+//! The connections of a scope, indexed by their source ports, and what their target ports lead to.
 
 ghost use Rattle.std.specs.Prelude.{◌≡◌, ◌∷◌, ◌++◌, [], OnOk, OnErr, IfOk, if◌then◌else◌};
 ghost use Rattle.click_expand.specs.declared.connections.connection_index.ScopePort.{ScopePort as Jack};
@@ -18,7 +18,7 @@ pub struct ScopePort {
     pub number: u8,
 }
 
-/// Where connections lead on from: a port in an instance of its scope.
+/// A port in an instance of its scope, where connections continue.
 #[derive(Clone, Copy, Debug, PartialEq, Eq, Hash)]
 pub struct InstancePort {
     pub within: usize,
@@ -32,10 +32,10 @@ pub struct FlatInput {
     pub number: u8,
 }
 
-/// What lies behind a port that a connection leads to.
+/// What a connection leads to.
 #[derive(Clone, Copy, Debug, PartialEq, Eq)]
 pub enum Reached {
-    /// A port that further connections lead on from.
+    /// A port where further connections continue.
     Start(InstancePort),
     /// An input of a flat element.
     PrimitiveElement(FlatInput),
@@ -43,14 +43,16 @@ pub enum Reached {
     Nothing,
 }
 
-/// The ports that connections lead to from a port. Mostly it is one, which takes no memory.
+/// The ports that connections lead to from a port.
+///
+/// perf: usually there is one, which needs no allocation.
 #[derive(Drop)]
 pub enum PortEnds {
     One(ScopePort),
     Several(Vec<ScopePort>),
 }
 
-/// Two ports, with room for more.
+/// Returns a list of two ports, with room for more.
 fn both(alloc: Global, first: ScopePort, second: ScopePort) -> Result<Vec<ScopePort>, AllocError>
     ensures { IfOk result (λ all. all.items ≡ first ∷ second ∷ []) }
 {
@@ -61,7 +63,7 @@ fn both(alloc: Global, first: ScopePort, second: ScopePort) -> Result<Vec<ScopeP
 }
 
 impl PortEnds {
-    /// Adds a port at the end. An error leaves the ports as they were.
+    /// Appends a port. If it fails with out of memory, the ports are unchanged.
     fn push(&mut self, alloc: Global, port: ScopePort) -> Result<(), AllocError>
         ensures ok { OnOk result (ends_of self.new ≡ ends_of self.old ++ port ∷ []) }
         ensures err { OnErr result (ends_of self.new ≡ ends_of self.old) }
@@ -75,7 +77,7 @@ impl PortEnds {
         Ok(())
     }
 
-    /// The ports, in order.
+    /// Returns the ports, in order.
     fn as_slice(&self) -> &[ScopePort]
         ensures { result.now ≡ ends_of self.now }
     {
@@ -86,8 +88,11 @@ impl PortEnds {
     }
 }
 
-/// The connections of a scope: for each port that one begins at, the ports that they lead to, or for an input with a shortcut its outputs; and for
-/// inputs that lead through the scope to the same outputs as another does, the number of that other.
+/// The connections of a scope, indexed by their source ports.
+///
+/// `ends` has the ports that the connections from a port lead to, or, for an input with a shortcut,
+/// its outputs. `alike` has, for some pass-through inputs, the number of another one that leads to
+/// the same outputs.
 #[derive(Drop)]
 pub struct ConnectionIndex {
     pub ends: IndexMap<ScopePort, PortEnds>,
@@ -95,7 +100,7 @@ pub struct ConnectionIndex {
 }
 
 impl ConnectionIndex {
-    /// Adds a connection. An error leaves the connections as they were.
+    /// Adds a connection. If it fails with out of memory, the connections are unchanged.
     fn add(&mut self, alloc: Global, from: ScopePort, to: ScopePort) -> Result<(), AllocError>
         ensures added { OnOk result ((q : Jack) → ends_in self.new.ends.entries q ≡ (if same_port from q then ends_in self.old.ends.entries from ++ to ∷ [] else ends_in self.old.ends.entries q)) }
         ensures err { OnErr result ((q : Jack) → ends_in self.new.ends.entries q ≡ ends_in self.old.ends.entries q) }
@@ -109,7 +114,7 @@ impl ConnectionIndex {
         Ok(())
     }
 
-    /// The ports that connections lead to from a port.
+    /// Returns the ports that connections lead to from a port.
     pub fn ends(&self, from: ScopePort) -> &[ScopePort]
         ensures { result.now ≡ ends_in self.now.ends.entries from }
     {
@@ -120,7 +125,7 @@ impl ConnectionIndex {
     }
 }
 
-/// The index of the connections of a scope.
+/// Returns the index of the connections of a scope, or fails with out of memory.
 pub fn index_of(
     alloc: Global,
     written_connections: &[WrittenConnection],
@@ -145,7 +150,7 @@ pub fn index_of(
     Ok(index)
 }
 
-/// What lies out of an instance that stands at a place, after its output of that number.
+/// Returns the port outside an instance, after its output with this number.
 fn outward(enclosing: Option<Place>, number: u8) -> Reached
     ensures { result ≡ spec.outward enclosing number }
 {
@@ -161,7 +166,7 @@ fn outward(enclosing: Option<Place>, number: u8) -> Reached
     }
 }
 
-/// What lies in an element, after its input of that number.
+/// Returns what is inside an element, after its input with this number.
 fn inward(part: Option<InstancePart>, number: u8) -> Reached
     ensures { result ≡ spec.inward part number }
 {
@@ -183,7 +188,7 @@ fn inward(part: Option<InstancePart>, number: u8) -> Reached
     }
 }
 
-/// What lies behind a port that a connection leads to in an instance.
+/// Returns what a connection to this port of an instance leads to.
 pub fn next_of(one: &Instance, to: ScopePort) -> Reached
     ensures { result ≡ reached_by one.now to.owner to.number }
 {

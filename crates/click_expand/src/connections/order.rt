@@ -6,7 +6,7 @@ ghost use Rattle.click_expand.specs.Flat.{AreOrdered};
 
 use crate::flat::Connection;
 
-/// The connections in their order, each once.
+/// Returns the connections in order, without repetition.
 pub fn in_order(mut connections: Vec<Connection>) -> Vec<Connection>
     ensures order { AreOrdered result.items }
     ensures same { (c : Joined) → Contains result.items c ↔ Contains connections.items c }

@@ -1,5 +1,8 @@
-//! Inputs of a body whose connections lead out at its outputs, past no element. The outputs are found once for the body, so that no search goes into
-//! the compounds inside it.
+//! Pass-through inputs: connections from such an input of a body lead to its outputs, through no
+//! flat element.
+//!
+//! perf: the outputs are found once for each body, so that no search enters the compounds inside
+//! it.
 
 ghost use Rattle.std.specs.Prelude.{◌≡◌, ◌⊎◌, ◌∷◌, [], ℕ, List, Contains, Option, Some, None, true, false, length, IfOk, OnOk, IfSome, if◌then◌else◌};
 ghost use Rattle.std.specs.Map.{lookup};
@@ -17,14 +20,16 @@ use click_scopes::{Owner, Scopes};
 use indexmap::{IndexMap, IndexSet};
 use std::alloc::{AllocError, Global};
 
-/// An input that only leads through its body, and the outputs that it leads to.
+/// A pass-through input, and the outputs that it leads to.
 #[derive(Drop)]
 struct Shortcut {
     from: ScopePort,
     outputs: Vec<ScopePort>,
 }
 
-/// The number of the input that stands in for that input of a body: its own, where none is kept.
+/// Returns the number of the stand-in for an input of a body.
+///
+/// It is the input's own number, if no stand-in is recorded.
 fn number_for(done: &[ConnectionIndex], body: usize, number: u8) -> u8
     ensures { (ends short : ℕ → PortKept → List PortKept) (bodies : ℕ → ℕ → Option ℕ) → AreShortened ends bodies short done.now →
         (result ≡ number) ⊎ LeadsThrough ends bodies body number (short body (port_of owner.Input result)) }
@@ -38,7 +43,7 @@ fn number_for(done: &[ConnectionIndex], body: usize, number: u8) -> u8
     }
 }
 
-/// The port that stands in for one that a connection leads to.
+/// Returns the stand-in for a port that a connection leads to.
 fn port_for(done: &[ConnectionIndex], scopes: &Scopes, scope: usize, end: ScopePort) -> ScopePort
     ensures { (ends short : ℕ → PortKept → List PortKept) → AreShortened ends (body_at scopes.now.scopes.items) short done.now → StandsIn ends (body_at scopes.now.scopes.items) short scope end result }
 {
@@ -54,7 +59,7 @@ fn port_for(done: &[ConnectionIndex], scopes: &Scopes, scope: usize, end: ScopeP
     }
 }
 
-/// Those that stand in for these, each once.
+/// Returns the stand-ins for these ports, without repetition.
 fn ports_for(
     alloc: Global,
     done: &[ConnectionIndex],
@@ -72,7 +77,7 @@ fn ports_for(
     Vec::from_slice(alloc, ports.as_slice())
 }
 
-/// Puts ports at a port, in the place of those there.
+/// Replaces the ports that are stored for a port.
 fn put_ends(
     ends: &mut IndexMap<ScopePort, PortEnds>,
     from: ScopePort,
@@ -84,7 +89,9 @@ fn put_ends(
     Ok(())
 }
 
-/// The index of a scope with each port that a connection leads to replaced by the one that stands in for it, where all bodies before are done.
+/// Returns the index of a scope in which each target port is replaced by its stand-in.
+///
+/// The indices of all bodies before the scope are in `done`.
 fn with_stand_ins(
     alloc: Global,
     done: &[ConnectionIndex],
@@ -108,7 +115,7 @@ fn with_stand_ins(
     })
 }
 
-/// Whether an element of the scope is a compound.
+/// Returns whether an element of the scope is a compound.
 fn has_compounds(scopes: &Scopes, scope: usize) -> bool
     ensures { result ≡ false → (element : ℕ) → body_at scopes.now.scopes.items scope element ≡ None }
 {
@@ -120,7 +127,9 @@ fn has_compounds(scopes: &Scopes, scope: usize) -> bool
     false
 }
 
-/// The same index. That of a scope without compounds is handed on as it is: there no other port stands in for one.
+/// Returns the index of a scope in which each target port is replaced by its stand-in.
+///
+/// perf: the index of a scope without compounds is returned as given, because it has no stand-ins.
 fn reduced(
     alloc: Global,
     done: &[ConnectionIndex],
@@ -137,7 +146,9 @@ fn reduced(
     Ok(index)
 }
 
-/// Whether all of these ports are a body's own outputs. True of none: an input without connections leads nowhere, and so past no element.
+/// Returns whether all of these ports are a body's own outputs.
+///
+/// It returns true for no ports: an input without connections leads to no flat element.
 fn are_outputs(ends: &[ScopePort]) -> bool
     ensures { result ≡ true → (p : PortKept) → Contains ends.now p → p.owner ≡ owner.Output }
 {
@@ -149,7 +160,9 @@ fn are_outputs(ends: &[ScopePort]) -> bool
     true
 }
 
-/// The outputs that an input of a body leads to, where it is known that it only leads through. None of a body that is not done.
+/// Returns the outputs of a pass-through input of a body.
+///
+/// Returns `None` if the input is not known to be one, or the body is not in `done`.
 fn outputs_through(done: &[ConnectionIndex], body: usize, number: u8) -> Option<&[ScopePort]>
     ensures { (ends short : ℕ → PortKept → List PortKept) (bodies : ℕ → ℕ → Option ℕ) → AreShortened ends bodies short done.now →
         IfSome result (λ outputs. (outputs.now ≡ short body (port_of owner.Input number)) × LeadsThrough ends bodies body number outputs.now) }
@@ -161,7 +174,7 @@ fn outputs_through(done: &[ConnectionIndex], body: usize, number: u8) -> Option<
     if are_outputs(ends) { Some(ends) } else { None }
 }
 
-/// Has the search go on from the element's outputs of these numbers.
+/// Continues the search at the element's outputs with these numbers.
 fn go_on(
     element: usize,
     outputs: &[ScopePort],
@@ -179,7 +192,9 @@ fn go_on(
     Ok(())
 }
 
-/// Goes on after a port that a connection leads to. False where that is a flat element's, or an input that leads to an element.
+/// Continues the search at a port that a connection leads to.
+///
+/// Returns false if the port belongs to a flat element, or is not a pass-through input.
 fn pass(
     done: &[ConnectionIndex],
     scopes: &Scopes,
@@ -192,7 +207,7 @@ fn pass(
         IfOk result (λ on. on ≡ true → GoesOnBehind ends (body_at scopes.now.scopes.items) short scope (end ∷ []) seen.old.keys seen.new.keys outputs.old.keys outputs.new.keys) }
 {
     match end.owner {
-        // No connection leads to a body's own input: that is a wrong use.
+        // No connection leads to a body's own input: that would be a misuse.
         Owner::Input => Ok(true),
         Owner::Output => {
             outputs.insert(end)?;
@@ -211,7 +226,9 @@ fn pass(
     }
 }
 
-/// Goes on after each of these ports, up to the first that leads to an element; false there.
+/// Continues the search at each of these ports.
+///
+/// Returns false at the first for which `pass` does.
 fn search_past_all(
     done: &[ConnectionIndex],
     scopes: &Scopes,
@@ -231,7 +248,9 @@ fn search_past_all(
     Ok(true)
 }
 
-/// The outputs of a scope that connections from one of its inputs lead to; none where they lead to an element.
+/// Returns the outputs of a scope to which connections from one of its inputs lead.
+///
+/// Returns `None` if they also lead to a flat element.
 fn outputs_from(
     alloc: Global,
     done: &[ConnectionIndex],
@@ -258,18 +277,18 @@ fn outputs_from(
     Ok(Some(Vec::from_slice(alloc, outputs.as_slice())?))
 }
 
-/// What is found of a scope.
+/// The shortcuts that were found in a scope.
 #[derive(Drop)]
 struct ScopeShortcuts {
-    /// Its inputs that only lead through.
+    /// Its pass-through inputs.
     shortcuts: Vec<Shortcut>,
-    /// By a port: the first of these inputs whose one connection leads there.
+    /// For a port: the first of these inputs whose only connection leads to it.
     firsts: IndexMap<ScopePort, u8>,
-    /// By an input: the one with a shortcut that has the same one connection.
+    /// For an input: the one with a shortcut that has the same only connection.
     alike: IndexMap<u8, u8>,
 }
 
-/// The one port that connections lead to from a port, if there is one.
+/// Returns the only port that connections lead to from a port, if there is exactly one.
 fn only_end(index: &ConnectionIndex, from: ScopePort) -> Option<ScopePort>
     ensures { result ≡ spec.only (ends_in index.now.ends.entries from) }
 {
@@ -280,7 +299,7 @@ fn only_end(index: &ConnectionIndex, from: ScopePort) -> Option<ScopePort>
 }
 
 impl ScopeShortcuts {
-    /// The input whose one connection leads to the same port and that was found before.
+    /// Returns an input that was found before, whose only connection leads to the same port.
     fn like(&self, index: &ConnectionIndex, from: ScopePort) -> Option<u8>
         ensures { (ends : ℕ → PortKept → List PortKept) (bodies : ℕ → ℕ → Option ℕ) (scope : ℕ) → AreFound ends bodies scope (ends_in index.now.ends.entries) self.now →
             IfSome result (IsLike (ends_in index.now.ends.entries) self.now.shortcuts.items from) }
@@ -308,7 +327,7 @@ impl ScopeShortcuts {
         Ok(())
     }
 
-    /// Adds the shortcut from a port, or the input that it is like, where it is an input that leads through the scope.
+    /// Adds the shortcut from a port, or the input that it is like, if it is a pass-through input.
     fn add_shortcut_from(
         &mut self,
         alloc: Global,
@@ -335,7 +354,9 @@ impl ScopeShortcuts {
     }
 }
 
-/// The shortcuts through a scope, where those through all bodies before it are known.
+/// Returns the shortcuts of a scope.
+///
+/// The indices of all bodies before it, with their shortcuts, are in `done`.
 fn shortcuts_of(
     alloc: Global,
     done: &[ConnectionIndex],
@@ -359,7 +380,7 @@ fn shortcuts_of(
     Ok(found)
 }
 
-/// The index with these shortcuts.
+/// Returns the index with these shortcuts.
 fn with_shortcuts(
     index: ConnectionIndex,
     found: ScopeShortcuts,
@@ -377,7 +398,9 @@ fn with_shortcuts(
     })
 }
 
-/// The index of a scope with the shortcuts through it, where all bodies before it are done.
+/// Returns the index of a scope with its shortcuts.
+///
+/// The indices of all bodies before it, with their shortcuts, are in `done`.
 fn shortened(
     alloc: Global,
     done: &[ConnectionIndex],
@@ -393,7 +416,7 @@ fn shortened(
     with_shortcuts(short, found)
 }
 
-/// The indices of all scopes, with the shortcuts through them.
+/// Returns the indices of all scopes, with their shortcuts, or fails with out of memory.
 pub fn all_indices(alloc: Global, scopes: &Scopes) -> Result<Vec<ConnectionIndex>, AllocError>
     ensures { IfOk result (λ short. (whole : List IndexKept) × AreIndices scopes.now.scopes.items whole × (length whole ≡ length short.items)
         × AreShortened (spec.ends_at whole) (body_at scopes.now.scopes.items) (spec.ends_at short.items) short.items) }

@@ -1,4 +1,4 @@
-//! The connections of a flat configuration.
+//! The search for the connections of a flat configuration.
 
 ghost use Rattle.std.specs.Prelude.{◌≡◌, ◌≤◌, ◌<◌, ◌∷◌, [], ℕ, List, length, Contains, OnOk, IfOk, MatchOption};
 ghost use Rattle.click_expand.specs.declared.flat.Connection.{Connection as Joined};
@@ -23,17 +23,17 @@ use click_text::syntax::Config;
 use indexmap::IndexSet;
 use std::alloc::{AllocError, Global};
 
-/// How many connections there may be.
+/// The maximum number of connections.
 pub const MOST_CONNECTIONS: usize = 16384;
 
-/// An output of a flat element, by which it is named in its connections, and where a search from it begins.
+/// An output of a flat element: the element's index, and the port where a search from it starts.
 #[derive(Clone, Copy)]
 struct Output {
     primitive_element: usize,
     start: InstancePort,
 }
 
-/// The connection from an output to an input.
+/// Returns the connection from an output to an input.
 fn connection(from: Output, to: FlatInput) -> Connection
     ensures { result ≡ spec.connection from.primitive_element from.start.port.number to }
 {
@@ -45,7 +45,7 @@ fn connection(from: Output, to: FlatInput) -> Connection
     }
 }
 
-/// Keeps what lies behind a connection: where the search goes on, or a connection that is found.
+/// Records what a connection leads to: a port where the search continues, or a found connection.
 fn take(
     next: Reached,
     from: Output,
@@ -66,7 +66,7 @@ fn take(
     Ok(())
 }
 
-/// Keeps what lies behind each of these ports of an instance.
+/// Records what connections to each of these ports of an instance lead to.
 fn take_all(
     one: &Instance,
     ends: &[ScopePort],
@@ -82,7 +82,7 @@ fn take_all(
     Ok(())
 }
 
-/// Goes on from a start by what its scope's index has there: connections, or a shortcut.
+/// Continues the search at `start`, with the ports that the index of its scope has for it.
 fn visit(
     instances: &[Instance],
     indices: &[ConnectionIndex],
@@ -102,7 +102,7 @@ fn visit(
     take_all(one, index.ends(start.port), from, seen, found)
 }
 
-/// Adds the connections from an output, all of them where there are no more than the limit.
+/// Adds the connections from an output: all of them, if there are no more than the limit.
 fn search(
     alloc: Global,
     instances: &[Instance],
@@ -127,7 +127,7 @@ fn search(
     Ok(())
 }
 
-/// Adds the connections from a port of an instance, where it is an output of a flat element.
+/// Adds the connections from a port of an instance, if it is an output of a flat element.
 fn search_port(
     alloc: Global,
     instances: &[Instance],
@@ -191,7 +191,9 @@ fn search_instance(
     Ok(())
 }
 
-/// The connections, all of them where there are no more than the limit. There is room for so many at first.
+/// Returns the connections: all of them, if there are no more than the limit.
+///
+/// Room for `room` connections is allocated at first.
 fn search_all(
     alloc: Global,
     room: usize,
@@ -208,7 +210,8 @@ fn search_all(
     Ok(found)
 }
 
-/// The connections in their order, each once, or none where there are more than the limit.
+/// Returns the connections in order, without repetition, or `None` if there are more than the
+/// limit.
 pub fn connections_of(
     alloc: Global,
     config: &Config,
@@ -224,7 +227,7 @@ pub fn connections_of(
         (λ ks. AreConnections config.now primitive_elements ks.items × (length ks.items ≤ most_connections))) }
 {
     let indices = all_indices(alloc, scopes)?;
-    // Mostly one connection leads to each element.
+    // perf: usually one connection leads to each element.
     let room = instances.primitive_elements.len();
     let found = search_all(
         alloc,

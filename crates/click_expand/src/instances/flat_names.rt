@@ -1,4 +1,4 @@
-//! The flat names of elements: the local names on the way to them, with `/` between two of them.
+//! Flat names: the local names on the way to an element, with `/` between them.
 
 ghost use Rattle.std.specs.Prelude.{◌≡◌, ℕ, List, map, reverse, slice_get, Some, IfOk};
 ghost use Rattle.click_text.specs.declared.syntax.Config.{Config as Spelled};
@@ -14,7 +14,7 @@ use crate::instances::tree::{Instance, Place};
 use click_scopes::Scopes;
 use std::alloc::{AllocError, Global};
 
-/// The local name of the element at a place.
+/// Returns the local name of the element at a place.
 fn local_name<'a>(scopes: &'a Scopes, instances: &[Instance], place: Place) -> &'a [u8]
     ensures { result.now ≡ name_of_place scopes.now.scopes.items instances.now place }
 {
@@ -24,7 +24,7 @@ fn local_name<'a>(scopes: &'a Scopes, instances: &[Instance], place: Place) -> &
     }
 }
 
-/// Where an instance stands: in one with a smaller place.
+/// Returns the place of an instance, if that is in an instance with a lower index.
 fn enclosing(instances: &[Instance], at: usize) -> Option<Place>
     ensures { result ≡ enclosing_in instances.now at }
 {
@@ -37,7 +37,7 @@ fn enclosing(instances: &[Instance], at: usize) -> Option<Place>
     }
 }
 
-/// The places on the way from an instance outwards, the nearest first.
+/// Returns the places on the way from an instance outwards, of which the nearest comes first.
 fn outward(alloc: Global, instances: &[Instance], within: usize) -> Result<Vec<Place>, AllocError>
     ensures { IfOk result (λ way. (c : Spelled) (scopes : List ScopeKept) (places : List Placed) (known : List KnownInstance) (primitive_elements : List Flattened) (x : KnownInstance) →
         AreAllScopes c scopes → AreInstances c instances.now places known primitive_elements → slice_get known within ≡ Some x → x.path ≡ reverse (map (name_of_place scopes instances.now) way.items)) }
@@ -51,7 +51,7 @@ fn outward(alloc: Global, instances: &[Instance], within: usize) -> Result<Vec<P
     Ok(way)
 }
 
-/// The flat name of the flat element at a place.
+/// Returns the flat name of the flat element at a place, or fails with out of memory.
 pub fn name_of(
     alloc: Global,
     scopes: &Scopes,
@@ -62,7 +62,7 @@ pub fn name_of(
         AreAllScopes c scopes.now.scopes.items → AreInstances c instances.now places known primitive_elements → slice_get places n ≡ Some place → slice_get primitive_elements n ≡ Some primitive_element → name.items ≡ flat_name primitive_element.path) }
 {
     let local = local_name(scopes, instances, place);
-    // Mostly that is the whole name, since most elements stand in no compound.
+    // perf: usually this is the whole flat name, because most elements are in no compound.
     let mut name = Vec::with_capacity(alloc, local.len())?;
     let mut way = outward(alloc, instances, place.within)?;
     while let Some(step) = way.pop() {

@@ -1,4 +1,4 @@
-//! How much a configuration stands for, before it is expanded.
+//! The size of a configuration, before it is expanded.
 
 ghost use Rattle.std.specs.Prelude.{◌≡◌, ◌+◌, ◌++◌, ◌∷◌, [], min, slice_get, IfOk, OnOk};
 ghost use Rattle.click_scopes.specs.Analysis.{AreScopes};
@@ -13,27 +13,29 @@ use click_scopes::{ResolvedClass, ScopeElement, Scopes};
 use click_text::syntax::Config;
 use std::alloc::{AllocError, Global};
 
-/// How many flat elements there may be.
+/// The maximum number of flat elements.
 pub const MOST_ELEMENTS: usize = 4096;
 
-/// How many paths there may be to flat elements and to compounds.
+/// The maximum number of paths to flat elements and compounds.
 pub const MOST_PATHS: usize = 16384;
 
-/// The number of flat elements, and that of paths to them and to compounds; where a limit is passed, one more than it.
+/// The number of flat elements, and the number of paths to them and to compounds.
+///
+/// A number that passes its limit is the limit plus one.
 #[derive(Clone, Copy, Debug, PartialEq, Eq)]
 pub struct Size {
     pub elements: usize,
     pub paths: usize,
 }
 
-/// The sum, or the cap where it passes that.
+/// Returns the sum, or `cap` if the sum is greater.
 fn capped(a: usize, b: usize, cap: usize) -> usize
     ensures { result ≡ min (a + b) cap }
 {
     a.saturating_add(b).min(cap)
 }
 
-/// The size of the scope at a place.
+/// Returns the size of the scope at an index.
 fn size_at(sizes: &[Size], place: usize) -> Size
     ensures { result ≡ size_or (slice_get sizes.now place) }
 {
@@ -46,7 +48,7 @@ fn size_at(sizes: &[Size], place: usize) -> Size
     }
 }
 
-/// What is inside an element.
+/// Returns the size inside an element of this class.
 fn size_inside(sizes: &[Size], class: Option<ResolvedClass>) -> Size
     ensures { result ≡ spec.size_inside sizes.now class }
 {
@@ -59,7 +61,7 @@ fn size_inside(sizes: &[Size], class: Option<ResolvedClass>) -> Size
     }
 }
 
-/// The size with that of one more element.
+/// Returns the size with one more element.
 fn with_element(all: Size, inside: Size) -> Size
     ensures elements { result.elements ≡ min (all.elements + inside.elements) (most_elements + 1) }
     ensures paths { result.paths ≡ min (all.paths + (inside.paths + 1)) (most_paths + 1) }
@@ -74,7 +76,7 @@ fn with_element(all: Size, inside: Size) -> Size
     }
 }
 
-/// The size of a scope after those that its elements can mean.
+/// Returns the size of a scope, from the sizes of the bodies before it.
 fn scope_size(sizes: &[Size], scope_elements: &[ScopeElement]) -> Size
     ensures { IsSum sizes.now scope_elements.now result }
 {
@@ -88,7 +90,7 @@ fn scope_size(sizes: &[Size], scope_elements: &[ScopeElement]) -> Size
     all
 }
 
-/// Adds a size at the end.
+/// Appends a size.
 fn push_size(sizes: &mut Vec<Size>, size: Size) -> Result<(), AllocError>
     ensures { OnOk result (sizes.new.items ≡ sizes.old.items ++ size ∷ []) }
 {
@@ -96,7 +98,9 @@ fn push_size(sizes: &mut Vec<Size>, size: Size) -> Result<(), AllocError>
     Ok(())
 }
 
-/// The size of a configuration, counted once for each scope and not once for each instance.
+/// Returns the size of a configuration, or fails with out of memory.
+///
+/// perf: each scope is counted once, and not once for each instance.
 pub fn size_of(alloc: Global, config: &Config, scopes: &Scopes) -> Result<Size, AllocError>
     requires nested { IsNested config.now }
     requires sound { IsFaultless config.now }

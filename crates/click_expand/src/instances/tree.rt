@@ -16,16 +16,16 @@ use click_scopes::{ResolvedClass, Scopes};
 use click_text::syntax::Config;
 use std::alloc::{AllocError, Global};
 
-/// An element of an instance.
+/// A part: an element of an instance.
 #[derive(Clone, Copy, Debug, PartialEq, Eq)]
 pub enum InstancePart {
-    /// A flat element, by its place in flat order.
+    /// A flat element, by its index in flat order.
     PrimitiveElement(usize),
-    /// An instance of a body, by its place among the instances.
+    /// An instance of a body, by its index among the instances.
     Inner(usize),
 }
 
-/// The place of an element: the instance that it stands in, and its place among the elements there.
+/// The place of an element: the instance that contains it, and its index among the elements there.
 #[derive(Clone, Copy, Debug, PartialEq, Eq)]
 pub struct Place {
     pub within: usize,
@@ -35,24 +35,26 @@ pub struct Place {
 /// An instance of a scope.
 #[derive(Drop)]
 pub struct Instance {
-    /// The place of its scope.
+    /// The index of its scope.
     pub scope: usize,
-    /// The element that it is; the whole text is none.
+    /// The place of the element whose instance it is; `None` for the whole text.
     pub enclosing: Option<Place>,
-    /// The instance of the scope that its body is written in; the whole text has none.
+    /// The instance of the scope around its body; `None` for the whole text.
     pub lexical_parent: Option<usize>,
     /// Its elements, in the order of the text.
     pub parts: Sequence<InstancePart>,
 }
 
-/// The instances, that of the whole text first, each after the one that it stands in; and the flat elements in their order.
+/// The instances, and the places of the flat elements in flat order.
+///
+/// The whole text is the first instance, and each other one comes after the one that contains it.
 #[derive(Drop)]
 pub struct Instances {
     pub instances: Vec<Instance>,
     pub primitive_elements: Vec<Place>,
 }
 
-/// What stands next among the elements of an instance.
+/// What comes next among the elements of an instance.
 #[derive(Clone, Copy)]
 enum NextElement {
     Inner(usize),
@@ -60,7 +62,7 @@ enum NextElement {
     Nothing,
 }
 
-/// The instances and the flat elements so far, and the instance at which the walk is.
+/// The instances and the flat elements so far, and the current instance of the walk.
 #[derive(Drop)]
 struct Walk {
     instances: Vec<Instance>,
@@ -77,7 +79,7 @@ fn next_class(class: Option<ResolvedClass>) -> NextElement
     }
 }
 
-/// What stands at that place among the elements of a scope.
+/// Returns what is at this index among the elements of a scope.
 fn next_in(scopes: &Scopes, scope: usize, element: usize) -> NextElement
     ensures { result ≡ spec.next_in (elements_by (slice_get scopes.now.scopes.items scope)) element }
 {
@@ -87,7 +89,7 @@ fn next_in(scopes: &Scopes, scope: usize, element: usize) -> NextElement
     }
 }
 
-/// The instance to look at after one that is not of that scope.
+/// Returns the next instance to look at, or `None` if this one is of the scope.
 fn next_lexical_parent(instances: &[Instance], place: usize, scope: usize) -> Option<usize>
     requires { place < length instances.now }
     ensures { (k : InstanceKept) × (slice_get instances.now place ≡ Some k) × (result ≡ lexical_parent_by scope k) }
@@ -100,7 +102,7 @@ fn next_lexical_parent(instances: &[Instance], place: usize, scope: usize) -> Op
     }
 }
 
-/// The nearest instance of that scope from lexical parent to lexical parent.
+/// Returns the nearest instance of the scope, going from lexical parent to lexical parent.
 fn lexical_parent_of(instances: &[Instance], place: usize, scope: usize) -> usize
     requires there { place < length instances.now }
     requires inward { AreInward instances.now }
@@ -113,7 +115,7 @@ fn lexical_parent_of(instances: &[Instance], place: usize, scope: usize) -> usiz
     lexical_parent
 }
 
-/// Adds a part to an instance.
+/// Appends a part to an instance.
 fn add_part(
     instances: &mut Vec<Instance>,
     place: usize,
@@ -127,7 +129,7 @@ fn add_part(
     Ok(())
 }
 
-/// An instance that has no parts yet.
+/// Returns an instance without parts.
 fn new_instance(
     alloc: Global,
     scope: usize,
@@ -144,7 +146,7 @@ fn new_instance(
     }
 }
 
-/// Adds an instance at the end.
+/// Appends an instance.
 fn push_instance(instances: &mut Vec<Instance>, one: Instance) -> Result<(), AllocError>
     ensures { OnOk result (instances.new.items ≡ instances.old.items ++ one ∷ []) }
 {
@@ -152,7 +154,7 @@ fn push_instance(instances: &mut Vec<Instance>, one: Instance) -> Result<(), All
     Ok(())
 }
 
-/// How many parts an instance has so far.
+/// Returns the number of parts that an instance has so far.
 fn part_count(instances: &[Instance], place: usize) -> usize
     requires { place < length instances.now }
     ensures { (k : InstanceKept) × (slice_get instances.now place ≡ Some k) × (result ≡ length k.parts) }
@@ -161,7 +163,7 @@ fn part_count(instances: &[Instance], place: usize) -> usize
     one.parts.len()
 }
 
-/// Adds a flat element to the instance at which the walk is.
+/// Appends a flat element to the current instance.
 fn add_primitive_element(walk: &mut Walk) -> Result<(), AllocError>
     requires { walk.old.place < length walk.old.instances.items }
     ensures { OnOk result ((k : InstanceKept) × (slice_get walk.old.instances.items walk.old.place ≡ Some k) × AddsFlatElement walk.old walk.new k) }
@@ -180,7 +182,7 @@ fn add_primitive_element(walk: &mut Walk) -> Result<(), AllocError>
     Ok(())
 }
 
-/// Adds the instance of a body, and goes there.
+/// Appends the instance of a body, and makes it the current one.
 fn enter(alloc: Global, scopes: &Scopes, body: usize, walk: &mut Walk) -> Result<(), AllocError>
     requires there { walk.old.place < length walk.old.instances.items }
     requires inward { AreInward walk.old.instances.items }
@@ -206,7 +208,7 @@ fn enter(alloc: Global, scopes: &Scopes, body: usize, walk: &mut Walk) -> Result
     Ok(())
 }
 
-/// Goes to the instance around, where there is one.
+/// Makes the instance around the current one the current one. Returns false if there is none.
 fn leave(walk: &mut Walk) -> bool
     requires { walk.old.place < length walk.old.instances.items }
     ensures { (k : InstanceKept) × (slice_get walk.old.instances.items walk.old.place ≡ Some k) × IsLeft k.enclosing walk.old walk.new result }
@@ -221,7 +223,7 @@ fn leave(walk: &mut Walk) -> bool
     }
 }
 
-/// What the walk finds at its place.
+/// Returns what comes next in the instance at an index.
 fn next_of(instances: &[Instance], scopes: &Scopes, place: usize) -> NextElement
     requires { place < length instances.now }
     ensures { (k : InstanceKept) × (slice_get instances.now place ≡ Some k) × (result ≡ spec.next_in (elements_by (slice_get scopes.now.scopes.items k.scope)) (length k.parts)) }
@@ -230,7 +232,7 @@ fn next_of(instances: &[Instance], scopes: &Scopes, place: usize) -> NextElement
     next_in(scopes, one.scope, one.parts.len())
 }
 
-/// One step of the walk; says whether there are more.
+/// Makes one step of the walk. Returns whether more follow.
 fn step(alloc: Global, scopes: &Scopes, walk: &mut Walk) -> Result<bool, AllocError>
     requires there { walk.old.place < length walk.old.instances.items }
     requires inward { AreInward walk.old.instances.items }
@@ -249,7 +251,7 @@ fn step(alloc: Global, scopes: &Scopes, walk: &mut Walk) -> Result<bool, AllocEr
     }
 }
 
-/// The instances of a configuration to whose elements so many paths lead.
+/// Returns the instances of a configuration with this number of paths, or fails with out of memory.
 pub fn instances_of(
     alloc: Global,
     config: &Config,

@@ -15,7 +15,7 @@ use click_scopes::Scopes;
 use click_text::syntax::Config;
 use std::alloc::{AllocError, Global};
 
-/// Adds an element at the end.
+/// Appends an element.
 fn push_flat(elements: &mut Vec<FlatElement>, element: FlatElement) -> Result<(), AllocError>
     ensures { OnOk result (elements.new.items ≡ elements.old.items ++ element ∷ []) }
 {
@@ -23,7 +23,7 @@ fn push_flat(elements: &mut Vec<FlatElement>, element: FlatElement) -> Result<()
     Ok(())
 }
 
-/// The flat elements, or none where their texts are longer than the limit.
+/// Returns the flat elements, or `None` if their texts are longer than the limit.
 pub fn elements_of(
     alloc: Global,
     config: &Config,

@@ -19,7 +19,8 @@ use click_scopes::Scopes;
 use click_text::syntax::Config;
 use std::alloc::{AllocError, Global};
 
-/// The flat element at a place, or none where its text has more bytes than there is room for.
+/// Returns the flat element at a place, or `None` if its text has more bytes than the buffer has
+/// room.
 pub fn element_at(
     alloc: Global,
     config: &Config,

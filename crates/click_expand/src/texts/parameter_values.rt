@@ -1,4 +1,4 @@
-//! What stands for a parameter in an instance of a scope.
+//! The value of a parameter in an instance of a scope.
 
 ghost use Rattle.std.specs.Prelude.{◌≡◌, ◌<◌, ◌≤◌, List, length, slice_get, ◌∷◌, Some, IfSome};
 ghost use Rattle.click_scopes.specs.Scopes.{body_formals};
@@ -14,28 +14,28 @@ use crate::texts::parameters::formal_place;
 use click_scopes::Scopes;
 use click_text::syntax::{Body, Config, Span};
 
-/// A text that is to be read in an instance: the parameters in it have the values that they have there.
+/// A text that is to be read in an instance, with the values that its parameters have there.
 #[derive(Clone, Copy)]
 pub struct UnreadText<'a> {
     pub within: usize,
     pub rest: &'a [u8],
 }
 
-/// An argument with which a body is used: the instance, and the place among its arguments.
+/// An argument with which a body is used: the instance, and the index among its arguments.
 #[derive(Clone, Copy, Debug, PartialEq, Eq, Hash)]
 pub struct Argument {
     pub within: usize,
     pub place: usize,
 }
 
-/// What stands for a parameter: an argument, and its text as it is to be read.
+/// The value of a parameter: an argument, and its unread text.
 #[derive(Clone, Copy)]
 pub struct ParameterValue<'a> {
     pub argument: Argument,
     pub reading: UnreadText<'a>,
 }
 
-/// The parameters of a scope: the whole text has none.
+/// Returns the parameters of a scope; the whole text has none.
 fn formals_at(bodies: &[Body], scope: usize) -> &[Span]
     ensures { result.now ≡ body_formals (slice_get bodies.now scope) }
 {
@@ -45,7 +45,7 @@ fn formals_at(bodies: &[Body], scope: usize) -> &[Span]
     }
 }
 
-/// What stands for a parameter of the scope that an instance is of.
+/// Returns the value of a parameter of the scope of an instance.
 fn own_value<'a>(
     config: &'a Config,
     scopes: &Scopes,
@@ -84,7 +84,9 @@ fn own_value<'a>(
     })
 }
 
-/// What stands for a parameter in an instance: the argument of the nearest body around that has the parameter.
+/// Returns the value of a parameter in an instance.
+///
+/// It is the argument of the nearest body around that has the parameter.
 pub fn value_at<'a>(
     config: &'a Config,
     scopes: &Scopes,

@@ -9,7 +9,7 @@ ghost use Rattle.click_expand.specs.kept.Texts.{formal_of, formal_run, formal_in
 
 use click_text::syntax::Span;
 
-/// A parameter that begins a text: where its name stands there, and of how many bytes it is.
+/// A parameter at the beginning of a text: the span of its name, and its number of bytes.
 #[derive(Clone, Copy)]
 pub struct Parameter {
     pub name: Span,
@@ -22,7 +22,7 @@ fn is_name_byte(byte: u8) -> bool
     byte.is_ascii_alphanumeric() || byte == b'_'
 }
 
-/// How many name bytes a text begins with.
+/// Returns the number of name bytes at the beginning of a text.
 fn name_len(text: &[u8]) -> usize
     ensures within { result ≤ length text.now }
     ensures run { result ≡ prefix_len name_byte text.now }
@@ -35,7 +35,9 @@ fn name_len(text: &[u8]) -> usize
     text.len()
 }
 
-/// The parameter whose name begins at a place, where so many further bytes belong to it. The name may not be empty.
+/// Returns the parameter whose name begins at `start`, with `extra` further bytes.
+///
+/// Returns `None` if the name is empty.
 fn named_from(text: &[u8], start: usize, extra: usize) -> Option<Parameter>
     requires start { start ≤ length text.now }
     requires extra { extra ≤ 3 }
@@ -54,7 +56,7 @@ fn named_from(text: &[u8], start: usize, extra: usize) -> Option<Parameter>
     })
 }
 
-/// The parameter that begins a text: `$x` or `${x}`.
+/// Returns the parameter at the beginning of a text, if there is one: `$x` or `${x}`.
 pub fn parameter_at(text: &[u8]) -> Option<Parameter>
     ensures formal { option_map (formal_of text.now) result ≡ formal_in text.now }
 {
@@ -71,7 +73,7 @@ pub fn parameter_at(text: &[u8]) -> Option<Parameter>
     }
 }
 
-/// The word is `$` and that name.
+/// Returns whether the word is `$` and this name.
 fn is_named(word: &[u8], name: &[u8]) -> bool
     ensures { result ≡ bytes_eq (drop 1 word.now) name.now }
 {
@@ -81,7 +83,7 @@ fn is_named(word: &[u8], name: &[u8]) -> bool
     }
 }
 
-/// The place of the parameter of that name among these, the first of them that has it.
+/// Returns the index of the first parameter with this name.
 pub fn formal_place(text: &[u8], formals: &[Span], name: &[u8]) -> Option<usize>
     ensures { result ≡ position (λ f. bytes_eq (drop 1 (bytes_at text.now f)) name.now) formals.now }
 {

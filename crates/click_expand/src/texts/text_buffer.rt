@@ -1,4 +1,4 @@
-//! What is written of the texts of elements, and the arguments that stand in it.
+//! The buffer in which the texts of elements are written, and the arguments in it.
 
 ghost use Rattle.std.specs.Prelude.{◌≡◌, ◌<◌, ◌≤◌, ◌+◌, ◌++◌, [], length, drop, true, false, Some, IfOk, OnOk, OnErr, if◌then◌else◌};
 ghost use Rattle.std.specs.Map.{lookup};
@@ -11,11 +11,12 @@ use click_text::syntax::Span;
 use indexmap::IndexMap;
 use std::alloc::{AllocError, Global};
 
-/// How many bytes the argument texts of all flat elements may have.
+/// The maximum number of bytes of the texts of all flat elements.
 pub const MOST_TEXT: usize = 1_048_576;
 
-/// The texts of elements, one after the other; where in them each argument stands that was read once, so that it is read no second time; and how
-/// many bytes there is still room for.
+/// The texts of elements, one after another, and the number of bytes that may still be added.
+///
+/// perf: `values` has the span of each argument that was written, so that it is not read again.
 #[derive(Drop)]
 pub struct TextBuffer {
     pub text: Vec<u8>,
@@ -24,7 +25,7 @@ pub struct TextBuffer {
 }
 
 impl TextBuffer {
-    /// Nothing yet.
+    /// Returns an empty buffer.
     pub fn new(alloc: Global) -> TextBuffer
         ensures text { result.text.items ≡ [] }
         ensures values { result.values.entries ≡ [] }
@@ -37,21 +38,23 @@ impl TextBuffer {
         }
     }
 
-    /// What is written from a place on.
+    /// Returns the bytes from offset `start` on.
     pub fn behind(&self, start: usize) -> &[u8]
         ensures { result.now ≡ drop start self.now.text.items }
     {
         self.text.as_slice().get(start..).unwrap_or(&[])
     }
 
-    /// Where the argument stands.
+    /// Returns the span at which the argument was written, if it was.
     pub fn place_of(&self, argument: Argument) -> Option<Span>
         ensures { result ≡ lookup (same_argument argument) self.now.values.entries }
     {
         self.values.get(&argument).copied()
     }
 
-    /// Adds bytes, if there is room for them. An error leaves the buffer as it was.
+    /// Appends bytes. Returns false, and appends nothing, if there is no room for them.
+    ///
+    /// If it fails with out of memory, the buffer is unchanged.
     pub fn add(&mut self, bytes: &[u8]) -> Result<bool, AllocError>
         ensures fits { IfOk result (λ fits. fits ≡ true → self.new.text.items ≡ self.old.text.items ++ bytes.now) }
         ensures full { IfOk result (λ fits. fits ≡ false → (self.new.text ≡ self.old.text) × (self.old.room < length bytes.now)) }
@@ -68,7 +71,10 @@ impl TextBuffer {
         Ok(true)
     }
 
-    /// Adds bytes that stand in the text already, if there is room for them. An error leaves the buffer as it was.
+    /// Appends bytes that are already in the text.
+    ///
+    /// Returns false, and appends nothing, if there is no room for them. If it fails with out of
+    /// memory, the buffer is unchanged.
     pub fn repeat(&mut self, span: Span) -> Result<bool, AllocError>
         requires ordered { span.start ≤ span.end }
         requires within { span.end ≤ length self.old.text.items }
@@ -88,7 +94,9 @@ impl TextBuffer {
         Ok(true)
     }
 
-    /// The argument stands in the text from a place to its end. An error leaves the buffer as it was.
+    /// Records that the argument is in the text from offset `start` to its end.
+    ///
+    /// If it fails with out of memory, the buffer is unchanged.
     pub fn keep(&mut self, argument: Argument, start: usize) -> Result<(), AllocError>
         ensures kept { OnOk result ((a : Given) → lookup (same_argument a) self.new.values.entries ≡
             (if same_argument a argument then Some (record { start = start; end = length self.old.text.items }) else lookup (same_argument a) self.old.values.entries)) }

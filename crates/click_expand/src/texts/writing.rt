@@ -1,4 +1,4 @@
-//! Texts with their parameters replaced.
+//! Writing texts with their parameters replaced.
 
 ghost use Rattle.std.specs.Prelude.{◌≡◌, ℕ, ◌<◌, ◌≤◌, ◌+◌, ◌++◌, ◌∷◌, [], List, length, true, false, IfOk, OnOk};
 ghost use Rattle.click_scopes.specs.Analysis.{AreScopes};
@@ -20,23 +20,26 @@ use click_text::first_item;
 use click_text::syntax::Config;
 use std::alloc::{AllocError, Global};
 
-/// What a text begins with: so many bytes that stay, or a parameter of so many bytes and what stands for it.
+/// The beginning of a text: bytes that are not replaced, or a parameter with its value.
+///
+/// The number is that of the bytes of the text.
 #[derive(Clone, Copy)]
 pub enum TextPart<'a> {
     Bytes(usize),
     Value(usize, ParameterValue<'a>),
 }
 
-/// What is to be done while a text is written.
+/// A step of writing a text.
 #[derive(Clone, Copy)]
 pub enum TextStep<'a> {
-    /// To write what is read there.
+    /// Writes what is read from this text.
     Read(UnreadText<'a>),
-    /// To keep that an argument stands in the text, from that place to where the text then ends.
+    /// Records that an argument is in the text, from this offset to the end of the text at that
+    /// time.
     Keep(Argument, usize),
 }
 
-/// What a text that is not empty begins with.
+/// Returns the beginning of a text, which is not empty.
 fn part_of<'a>(
     config: &'a Config,
     scopes: &Scopes,
@@ -59,7 +62,7 @@ fn part_of<'a>(
     TextPart::Bytes(len)
 }
 
-/// Adds a step, to be done before the others.
+/// Appends a step, which is to be done before the others.
 fn push_step<'a>(steps: &mut Vec<TextStep<'a>>, step: TextStep<'a>) -> Result<(), AllocError>
     ensures { OnOk result (steps.new.items ≡ steps.old.items ++ step.entry ∷ []) }
 {
@@ -67,7 +70,7 @@ fn push_step<'a>(steps: &mut Vec<TextStep<'a>>, step: TextStep<'a>) -> Result<()
     Ok(())
 }
 
-/// Adds the step to read what stands after the first bytes of a text.
+/// Appends the step that reads a text after its first `size` bytes.
 fn push_rest<'a>(
     steps: &mut Vec<TextStep<'a>>,
     reading: UnreadText<'a>,
@@ -83,7 +86,11 @@ fn push_rest<'a>(
     push_step(steps, TextStep::Read(rest))
 }
 
-/// Writes what a text begins with, or adds the steps to write it: whether there is room for it. A value that was written before is not read again.
+/// Writes the beginning of a text, or appends the steps that write it.
+///
+/// Returns false if there is no room for it.
+///
+/// perf: a value that was written before is not read again.
 fn read_on<'a>(
     config: &'a Config,
     scopes: &Scopes,
@@ -123,7 +130,7 @@ fn read_on<'a>(
     }
 }
 
-/// Writes a text with its parameters replaced: whether there is room for it.
+/// Writes a text with its parameters replaced. Returns false if there is no room for it.
 pub fn write_text<'a>(
     alloc: Global,
     config: &'a Config,

@@ -13,7 +13,10 @@ use click_classes::{State, address};
 use click_engine::Element;
 use std::alloc::Global;
 
-/// `lookup`: where the address of the text is sent: the output of the entry with the longest prefix, and its gateway behind a space; -1 for nowhere.
+/// Reads `lookup`: the route of the address in the text.
+///
+/// It is the output of the entry with the longest prefix, and its gateway after a space; or -1 if
+/// no entry matches.
 pub fn read_lookup(alloc: Global, element: &Element, text: &[u8]) -> Result<Vec<u8>, HandlerFault>
     requires { class element.now.state ≡ is.StaticIPLookup }
     ensures { IsReadAnswer (read_value (codes "lookup") element.now text.now) result }

@@ -1,8 +1,9 @@
 //! The handlers of Queue and FrontDropQueue.
 
-ghost use Rattle.std.specs.Prelude.{◌≡◌, ◌≤◌, ◌-◌, ◌+◌, ◌^◌, codes, min, take, length, [], IsSome, OnOk, OnErr};
+ghost use Rattle.std.specs.Prelude.{◌≡◌, ◌<◌, ◌≤◌, ◌-◌, ◌+◌, ◌^◌, codes, min, take, length, [], IsSome, OnOk, OnErr};
 ghost use Rattle.click_classes.specs.Queues.{queue_of};
 ghost use Rattle.click_handlers.specs.Answers.{IsReadAnswer, IsWriteAnswer};
+ghost use Rattle.click_handlers.specs.Names.{name_at, queue_reads, queue_writes};
 ghost use Rattle.click_handlers.specs.Reads.{read_value};
 ghost use Rattle.click_handlers.specs.Writes.{write_value};
 
@@ -14,7 +15,7 @@ use click_classes::{PacketList, State};
 use click_engine::Element;
 use std::alloc::{AllocError, Global};
 
-/// `length`: how many packets there are.
+/// Reads `length`: the number of packets in the queue.
 pub fn read_length(alloc: Global, element: &Element, text: &[u8]) -> Result<Vec<u8>, HandlerFault>
     requires { IsSome (queue_of element.now.state) }
     ensures { IsReadAnswer (read_value (codes "length") element.now text.now) result }
@@ -26,8 +27,8 @@ pub fn read_length(alloc: Global, element: &Element, text: &[u8]) -> Result<Vec<
     }
 }
 
-/// `highwater_length`: the greatest length since the beginning, or since `reset_counts`.
-pub fn read_highwater_length(
+/// Reads `highwater_length`: the greatest length since the queue began or since `reset_counts`.
+fn read_highwater_length(
     alloc: Global,
     element: &Element,
     text: &[u8],
@@ -42,8 +43,8 @@ pub fn read_highwater_length(
     }
 }
 
-/// `drops`: how many packets were dropped, at most 2^64 - 1.
-pub fn read_drops(alloc: Global, element: &Element, text: &[u8]) -> Result<Vec<u8>, HandlerFault>
+/// Reads `drops`: the number of packets that were dropped, at most 2^64 - 1.
+fn read_drops(alloc: Global, element: &Element, text: &[u8]) -> Result<Vec<u8>, HandlerFault>
     requires { IsSome (queue_of element.now.state) }
     ensures { IsReadAnswer (read_value (codes "drops") element.now text.now) result }
 {
@@ -54,8 +55,8 @@ pub fn read_drops(alloc: Global, element: &Element, text: &[u8]) -> Result<Vec<u
     }
 }
 
-/// `capacity`: how many packets there is room for.
-pub fn read_capacity(alloc: Global, element: &Element, text: &[u8]) -> Result<Vec<u8>, HandlerFault>
+/// Reads `capacity`: the number of packets that the queue has room for.
+fn read_capacity(alloc: Global, element: &Element, text: &[u8]) -> Result<Vec<u8>, HandlerFault>
     requires { IsSome (queue_of element.now.state) }
     ensures { IsReadAnswer (read_value (codes "capacity") element.now text.now) result }
 {
@@ -66,7 +67,8 @@ pub fn read_capacity(alloc: Global, element: &Element, text: &[u8]) -> Result<Ve
     }
 }
 
-/// Gives a queue's list another capacity. The first packets stay, the others are counted as drops.
+/// Gives the list of a queue another capacity. The first packets stay, and the others are counted
+/// as drops.
 fn resize(
     alloc: Global,
     list: &mut PacketList,
@@ -86,7 +88,9 @@ fn resize(
     Ok(())
 }
 
-/// `capacity`: decimal digits, from 1 to 10,000. Where there are more packets the first stay, and the others are counted as drops.
+/// Writes `capacity`: a number from 1 to 10,000 in decimal digits.
+///
+/// If the queue has more packets, the first ones stay, and the others are counted as drops.
 pub fn write_capacity(alloc: Global, element: Element, text: &[u8]) -> Written
     requires { IsSome (queue_of element.state) }
     ensures { IsWriteAnswer (codes "capacity") element text.now result }
@@ -107,7 +111,7 @@ pub fn write_capacity(alloc: Global, element: Element, text: &[u8]) -> Written
     }
 }
 
-/// Forgets what was dropped, and the greatest length.
+/// Sets the drops to 0, and the greatest length to the current length.
 fn reset_counts(list: &PacketList, drops: &mut u64, highest: &mut usize)
     ensures drops { drops.new ≡ 0 }
     ensures highest { highest.new ≡ length list.now.packets }
@@ -116,8 +120,8 @@ fn reset_counts(list: &PacketList, drops: &mut u64, highest: &mut usize)
     *highest = list.len();
 }
 
-/// `reset_counts`: no drops, and the greatest length is the length.
-pub fn reset_queue_counts(_alloc: Global, element: Element, text: &[u8]) -> Written
+/// Writes `reset_counts`: sets the drops to 0, and the greatest length to the current length.
+fn reset_queue_counts(element: Element, text: &[u8]) -> Written
     requires { IsSome (queue_of element.state) }
     ensures { IsWriteAnswer (codes "reset_counts") element text.now result }
 {
@@ -138,8 +142,8 @@ pub fn reset_queue_counts(_alloc: Global, element: Element, text: &[u8]) -> Writ
     done(element)
 }
 
-/// `reset`: no packets. Drops and the greatest length stay.
-pub fn reset_queue(_alloc: Global, element: Element, text: &[u8]) -> Written
+/// Writes `reset`: removes all packets. The drops and the greatest length stay.
+fn reset_queue(element: Element, text: &[u8]) -> Written
     requires { IsSome (queue_of element.state) }
     ensures { IsWriteAnswer (codes "reset") element text.now result }
 {
@@ -150,4 +154,38 @@ pub fn reset_queue(_alloc: Global, element: Element, text: &[u8]) -> Written
         _ => unreachable!(),
     }
     done(element)
+}
+
+/// Reads a handler of a queue by its index: `length`, `highwater_length`, `drops` or `capacity`.
+pub fn read_at(
+    alloc: Global,
+    element: &Element,
+    text: &[u8],
+    place: usize,
+) -> Result<Vec<u8>, HandlerFault>
+    requires queue { IsSome (queue_of element.now.state) }
+    requires place { place < 4 }
+    ensures { IsReadAnswer (read_value (name_at queue_reads place) element.now text.now) result }
+{
+    match place {
+        0 => read_length(alloc, element, text),
+        1 => read_highwater_length(alloc, element, text),
+        2 => read_drops(alloc, element, text),
+        3 => read_capacity(alloc, element, text),
+        _ => unreachable!(),
+    }
+}
+
+/// Writes a handler of a queue by its index: `capacity`, `reset_counts` or `reset`.
+pub fn write_at(alloc: Global, element: Element, text: &[u8], place: usize) -> Written
+    requires queue { IsSome (queue_of element.state) }
+    requires place { place < 3 }
+    ensures { IsWriteAnswer (name_at queue_writes place) element text.now result }
+{
+    match place {
+        0 => write_capacity(alloc, element, text),
+        1 => reset_queue_counts(element, text),
+        2 => reset_queue(element, text),
+        _ => unreachable!(),
+    }
 }

@@ -1,4 +1,4 @@
-//! The handlers of Suppressor's ports.
+//! The handlers of a Suppressor's ports.
 
 ghost use Rattle.std.specs.Prelude.{◌≡◌, ◌<◌, false};
 ghost use Rattle.click_classes.specs.State.{class};
@@ -16,7 +16,7 @@ use click_classes::State;
 use click_engine::Element;
 use std::alloc::Global;
 
-/// Whether packets pass at the port that a name stands for.
+/// Returns whether packets pass at the port.
 fn read_port(
     alloc: Global,
     element: &Element,
@@ -36,7 +36,8 @@ fn read_port(
     }
 }
 
-/// `active0` to `active15`: whether packets pass at the port, which the element has to have.
+/// Reads `active0` to `active15`: whether packets pass at the port. Refuses a port that the element
+/// does not have.
 pub fn read_active(
     alloc: Global,
     element: &Element,
@@ -50,7 +51,7 @@ pub fn read_active(
     read_port(alloc, element, text, port)
 }
 
-/// Lets packets pass, or not, at the port that a name stands for.
+/// Sets whether packets pass at the port.
 fn write_port(element: Element, text: &[u8], port: u16) -> Written
     requires class { class element.state ≡ is.Suppressor }
     requires port { port < 16 }
@@ -71,7 +72,8 @@ fn write_port(element: Element, text: &[u8], port: u16) -> Written
     done(element)
 }
 
-/// `active0` to `active15`: a truth value. The element has to have the port, which is tested first.
+/// Writes `active0` to `active15`: a truth value. Refuses a port that the element does not have,
+/// before it looks at the text.
 pub fn write_active(element: Element, text: &[u8], port: u16) -> Written
     requires class { class element.state ≡ is.Suppressor }
     requires port { port < 16 }

@@ -15,7 +15,7 @@ use click_classes::State;
 use click_engine::Element;
 use std::alloc::Global;
 
-/// `switch` of a Switch: the output that packets go to, -1 for none.
+/// Reads `switch` of a Switch: the output that gets the packets, or -1 for none.
 pub fn read_switch(alloc: Global, element: &Element, text: &[u8]) -> Result<Vec<u8>, HandlerFault>
     requires { class element.now.state ≡ is.Switch }
     ensures { IsReadAnswer (read_value (codes "switch") element.now text.now) result }
@@ -26,7 +26,7 @@ pub fn read_switch(alloc: Global, element: &Element, text: &[u8]) -> Result<Vec<
     }
 }
 
-/// `switch` of a PullSwitch: the input that packets come from, -1 for none.
+/// Reads `switch` of a PullSwitch: the input that packets are pulled from, or -1 for none.
 pub fn read_pull_switch(
     alloc: Global,
     element: &Element,
@@ -41,8 +41,8 @@ pub fn read_pull_switch(
     }
 }
 
-/// `switch` of a Switch: -1, or decimal digits below the number of outputs.
-pub fn write_switch(_alloc: Global, element: Element, text: &[u8]) -> Written
+/// Writes `switch` of a Switch: -1, or decimal digits below the number of outputs.
+pub fn write_switch(element: Element, text: &[u8]) -> Written
     requires { class element.state ≡ is.Switch }
     ensures { IsWriteAnswer (codes "switch") element text.now result }
 {
@@ -58,8 +58,8 @@ pub fn write_switch(_alloc: Global, element: Element, text: &[u8]) -> Written
     done(element)
 }
 
-/// `switch` of a PullSwitch: -1, or decimal digits below the number of inputs.
-pub fn write_pull_switch(_alloc: Global, element: Element, text: &[u8]) -> Written
+/// Writes `switch` of a PullSwitch: -1, or decimal digits below the number of inputs.
+pub fn write_pull_switch(element: Element, text: &[u8]) -> Written
     requires { class element.state ≡ is.PullSwitch }
     ensures { IsWriteAnswer (codes "switch") element text.now result }
 {

@@ -1,7 +1,7 @@
--- A header's bytes as 32-bit words.
+-- The bytes of a header as 32-bit words.
 use Rattle.std.specs.Prelude.{ℕ, ◌+◌, ◌*◌, List, ◌∷◌}
 
--- the sum of the whole 32-bit words that the bytes spell, the low byte first
+-- the sum of the complete 32-bit words of the bytes, with the low byte first
 abbrev pub quads : List ℕ → ℕ
 quads (a ∷ b ∷ c ∷ d ∷ rest) = a + b * 256 + c * 65536 + d * 16777216 + quads rest
 quads xs = 0

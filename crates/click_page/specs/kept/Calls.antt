@@ -8,11 +8,11 @@ use Rattle.click_router.specs.declared.call.Call.TheVariants as call
 abbrev pub read_call : List ℕ → Option Call
 read_call handler = Some (call.Read handler [])
 
--- the call that writes a handler, where it may be made
+-- the call that writes a handler; none on a read-only page
 abbrev pub write_call : Bool → List ℕ → List ℕ → Option Call
 write_call readonly handler text = if readonly then None else Some (call.Write handler text)
 
--- no call of these is a poll
+-- none of these calls is a Poll
 abbrev pub AreNoPolls : List (Option Call) → Type 0
 AreNoPolls [] = Unit {0}
 AreNoPolls (c ∷ cs) = IfSome c (λ made. is_poll made ≡ false) × AreNoPolls cs

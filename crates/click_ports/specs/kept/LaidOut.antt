@@ -1,4 +1,4 @@
--- What a layout keeps.
+-- The invariant of a layout.
 use Rattle.std.specs.Prelude.{List, length}
 use Rattle.click_expand.specs.declared.flat.Connection.{Connection}
 use Rattle.click_ports.specs.declared.numbering.Block.{Block}

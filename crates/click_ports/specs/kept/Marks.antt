@@ -1,4 +1,4 @@
--- The codes and the kinds of all ports, as the code lists them.
+-- The codes and the kinds of all ports, in the lists of the code.
 use Rattle.std.specs.Prelude.{◌≡◌, ◌↔◌, List, length, Bool, not}
 use Rattle.click_classes.specs.declared.ports.Code.{Code}
 use Rattle.click_classes.specs.declared.ports.Side.{Side}
@@ -15,12 +15,12 @@ abbrev pub is_single : Side → Bool → Bool
 is_single Input pull = pull
 is_single Output pull = not pull
 
--- each port's code, at its number
+-- each port's code is at its number
 pub record AreCodes (w : Wiring) (codes : List Code) : Type 0 where
   pub all : length codes ≡ first w.connections (length w.shapes)
   pub right : (p : Port) → Has w.connections p → code_of codes (port_index w.connections p) ≡ code_at w.shapes p
 
--- each port has a mark at its number exactly if it reaches a port of the code
+-- a port is marked, at its number, exactly if it reaches a port with the code
 pub record AreMarks (w : Wiring) (k : Code) (marks : List Bool) : Type 0 where
   pub all : length marks ≡ first w.connections (length w.shapes)
   pub right : (p : Port) → Has w.connections p → IsMarked marks (port_index w.connections p) ↔ Meets w.shapes w.connections k p

@@ -1,4 +1,4 @@
--- What a net keeps.
+-- The invariant of a net.
 use Rattle.std.specs.Prelude.{ℕ, List, Bool}
 use Rattle.click_classes.specs.declared.ports.Code.TheVariants.{Pull}
 use Rattle.click_ports.specs.kept.Marks.{AreMarks}

@@ -1,4 +1,4 @@
--- The numbers of a row, as the code keeps them.
+-- The stored numbers of a row.
 use Rattle.std.specs.Prelude.{ℕ, List, [], ◌∷◌}
 use Rattle.click_ports.specs.declared.row.Numbers.{Numbers}
 use Rattle.click_ports.specs.declared.row.Numbers.TheVariants.{None, One, Many}

@@ -4,7 +4,7 @@ use Rattle.click_classes.specs.declared.ports.Side.{Side}
 use Rattle.click_expand.specs.declared.flat.Connection.{Connection}
 use Rattle.click_ports.specs.Ports.{used}
 
--- how many ports each of so many elements has at the side
+-- the number of ports at the side, for each of the first n elements
 pub record AreUsed (cs : List Connection) (n : ℕ) (s : Side) (counts : List ℕ) : Type 0 where
   pub all : length counts ≡ n
   pub right : (e : ℕ) → e < n → slice_index counts e ≡ used cs e s

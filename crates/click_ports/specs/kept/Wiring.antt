@@ -1,4 +1,4 @@
--- What a contract sees of a layout, and how its ports are numbered.
+-- The value that contracts see of a layout, and the numbers of its ports.
 use Rattle.std.specs.Prelude.{◌≡◌, ℕ, suc, zero, ◌+◌, ◌<◌, ◌≤◌, List, length, slice_get, All, Some}
 use Rattle.click_classes.specs.declared.ports.Side.{Side}
 use Rattle.click_classes.specs.declared.ports.Side.TheVariants.{Input, Output}
@@ -13,16 +13,17 @@ pub record Wiring : Type 0 where
   pub shapes : List Shape
   pub connections : List Connection
 
--- each connection joins two of so many elements
+-- each connection is between two of the first n elements
 abbrev pub AreWithin : ℕ → List Connection → Type 0
 AreWithin n cs = All (λ (c : Connection). (c.from < n) × (c.to < n)) cs
 
--- the number of the element's first port, where all ports are numbered element by element, inputs before outputs
+-- the number of the element's first port; all ports are numbered element by element, inputs before
+-- outputs
 abbrev pub first : List Connection → ℕ → ℕ
 first cs zero = 0
 first cs (suc e) = first cs e + (used cs e Input + used cs e Output)
 
--- how many ports of the element stand before those of the side
+-- the number of ports of the element that come before those of the side
 abbrev pub ahead : List Connection → ℕ → Side → ℕ
 ahead cs e Input = 0
 ahead cs e Output = used cs e Input
@@ -33,7 +34,7 @@ port_index cs p = first cs p.element + ahead cs p.element p.side + p.number
 abbrev pub block_of : List Connection → ℕ → Block
 block_of cs e = record { first = first cs e; inputs = used cs e Input; outputs = used cs e Output }
 
--- the same of a block
+-- the number of ports in a block that come before those of the side
 abbrev pub ahead_in : Block → Side → ℕ
 ahead_in b Input = 0
 ahead_in b Output = b.inputs
@@ -42,15 +43,15 @@ abbrev pub count_in : Block → Side → ℕ
 count_in b Input = b.inputs
 count_in b Output = b.outputs
 
--- each of these ports is there, under its place as its number
+-- each of these ports exists, and its index is its number
 abbrev pub InPlace : List Connection → List Port → Type 0
 InPlace cs ports = (x : ℕ) (p : Port) → slice_get ports x ≡ Some p → Has cs p × (port_index cs p ≡ x)
 
--- the blocks of so many elements, and all their ports
+-- the blocks of the first n elements, and all their ports
 pub record AreNumbered (cs : List Connection) (n : ℕ) (blocks : List Block) (ports : List Port) : Type 0 where
   pub all_blocks : length blocks ≡ n
   pub blocks_right : (e : ℕ) (b : Block) → slice_get blocks e ≡ Some b → b ≡ block_of cs e
   pub all_ports : length ports ≡ first cs n
   pub ports_right : InPlace cs ports
-  -- a connection's ports are numbered by bytes
+  -- the port numbers of a connection are bytes
   pub small : (e : ℕ) (s : Side) → e < n → used cs e s ≤ 256

@@ -1,4 +1,4 @@
--- Polls of a device, by whether the router has its source.
+-- Lemmas about polls and transmits of a device, by whether it has a source or a sink.
 use Rattle.std.proofs.Common.{◌≡◌, ◌↔◌, ℕ, Bool, true, false, true≢false, IsTrue, List, length, Option, Some, None, IsSome, sym, refl, subst}
 use Rattle.click_packet.specs.Packet.{Packet}
 use Rattle.click_engine.specs.Rounds.{source_of, sink_of, transmit, transmitted}
@@ -26,7 +26,7 @@ by_source s device taken None false h = ((λ _. refl), (λ _. refl))
 by_source s device taken (Some at) true h = ((λ e. absurd (true≢false e)), (λ e. absurd (not_none (length taken) e)))
 by_source s device taken (Some at) false h = absurd (true≢false (sym (h.1 refl)))
 
--- a poll is answered by no device just where there is no source
+-- a poll has the reply NoDevice if and only if the device has no source
 pub no_device : (s t : RouterState) (device : List ℕ) (taken : List Packet) (r : Reply) (b : Bool) → (IsTrue b ↔ IsSome (source_of s.plant device)) → entered s device taken ≡ (t, r) → (b ≡ false) ↔ (r ≡ reply.NoDevice)
 no_device s t device taken r b h is = subst (λ (p : RouterState × Reply). (b ≡ false) ↔ (p.1 ≡ reply.NoDevice)) is (by_source s device taken (source_of s.plant device) b h)
 
@@ -55,6 +55,6 @@ by_sink s device None false h = ((λ _. refl), (λ _. refl))
 by_sink s device (Some at) true h = ((λ e. absurd (true≢false e)), (λ e. absurd (not_sent (transmitted s.plant device) e)))
 by_sink s device (Some at) false h = absurd (true≢false (sym (h.1 refl)))
 
--- a transmit is answered by no device just where there is no sink
+-- a transmit has the reply NoDevice if and only if the device has no sink
 pub no_sink : (s t : RouterState) (device : List ℕ) (r : Reply) (b : Bool) → (IsTrue b ↔ IsSome (sink_of s.plant device)) → sent s device ≡ (t, r) → (b ≡ false) ↔ (r ≡ reply.NoDevice)
 no_sink s t device r b h is = subst (λ (p : RouterState × Reply). (b ≡ false) ↔ (p.1 ≡ reply.NoDevice)) is (by_sink s device (sink_of s.plant device) b h)

@@ -1,4 +1,4 @@
--- A check says beforehand whether a call meets a handler.
+-- A check foretells whether a call finds its handler.
 use Rattle.std.proofs.Common.{◌≡◌, ℕ, List, codes, decimal, Bool, true, false, ◌||◌, if◌then◌else◌, Option, None, Some, Result, Ok, Err, option_map, refl, sym, ap, subst}
 use Rattle.std.proofs.lemmas.Slice.Eq.{bytes_eq-Decides}
 use Rattle.std.specs.List.{list_any}
@@ -25,7 +25,7 @@ use Rattle.click_router.specs.declared.call.Reply.{Reply}
 use Rattle.click_router.specs.declared.call.Reply.TheVariants as reply
 use Rattle.click_router.specs.declared.check.Direction.TheVariants as direction
 
--- where there is no handler for that way
+-- the handler does not exist in this direction
 lacking : (other : Bool) → Foretells (check_of false other) (reply.Refused (refusal_of other))
 lacking true = refl
 lacking false = refl
@@ -51,7 +51,7 @@ write_one : (v : Plant) (f : Option (ℕ × Element)) (handler text : List ℕ)
 write_one v None handler text = refl
 write_one v (Some it) handler text = write_by (has_write (class it.1.state) handler) (has_read (class it.1.state) handler) v it.0 (write_value handler it.1 text)
 
--- the router's own handlers are those that answer
+-- a name is that of a global handler if and only if there is a value for it
 one_of : (a b c d e f : Bool) (s t u v w x : List ℕ)
     → (a || b || c || d || e || f) ≡ is_some (if a then Some s else if b then Some t else if c then Some u else if d then Some v else if e then Some w else if f then Some x else None)
 one_of true b c d e f s t u v w x = refl

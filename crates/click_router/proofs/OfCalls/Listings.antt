@@ -1,4 +1,4 @@
--- What a listing says of a router.
+-- The listing of a router.
 use Rattle.std.proofs.Common.{◌≡◌, ℕ, List, map, Option, Some, None, slice_get, refl, ◌∙◌}
 use Rattle.std.specs.Prelude.{option_and_then, option_map}
 use Rattle.std.proofs.lemmas.Option.{slice_get-map}
@@ -15,6 +15,6 @@ by_place (Some at) es = slice_get-map (λ (e : Element). class e.state) es at �
   inner None = refl
   inner (Some e) = refl
 
--- the class of a name is that of the element that is found by it
+-- the class of a name is that of the element with the name
 pub class_found : (s : RouterState) (name : List ℕ) → class_named (listing_of s) name ≡ option_map (λ (found : ℕ × Element). class found.1.state) (found s name)
 class_found s name = by_place (place_of s name) s.plant.elements

@@ -1,4 +1,4 @@
--- A swap takes over or changes nothing, and a call has one answer.
+-- A swap installs its text or changes nothing, and a call has at most one reply.
 use Rattle.std.proofs.Common.{◌≡◌, ◌⊎◌, ℕ, List, ◌∷◌, [], Bool, true, false, Some, None, if◌then◌else◌, refl, sym, ap, ◌∙◌, subst, inl, inr}
 use Rattle.click_router.specs.One.{Answers, is_hotconfig, swap_text, write, entered, worked, sent}
 use Rattle.click_router.specs.Opened.{IsOpened, IsFirstFault}
@@ -28,7 +28,7 @@ either s text _ _ (refused f h) = inr (f, h, refl, refl)
 WriteBy : Bool → RouterState → List ℕ → List ℕ → RouterState → Reply → Type 0
 WriteBy b s name text t r = elim b [ true ↦ Swaps s text t r | false ↦ write s name text ≡ (t, r) ]
 
--- a call that asks a text to take over is answered as a swap to it
+-- a call with the text of a swap has the replies of a swap to this text
 by_name : (b : Bool) (s t : RouterState) (name text other : List ℕ) (r : Reply) → (if b then Some other else None) ≡ Some text → WriteBy b s name other t r → Swaps s text t r
 unfolding WriteBy
 by_name true s t name text other r is h = let same : other ≡ text = cc in subst (λ x. Swaps s x t r) same h
@@ -46,7 +46,7 @@ swaps_to s t (call.Poll device ps) text r is h = absurd (let x = is in cc)
 swaps_to s t call.Round text r is h = absurd (let x = is in cc)
 swaps_to s t (call.Transmit device) text r is h = absurd (let x = is in cc)
 
--- a swap that is done took over
+-- a successful swap took over
 pub done : (s t : RouterState) (c : Call) (text : List ℕ) → swap_text c ≡ Some text → Answers s c t reply.Done → (new : RouterState) × IsOpened text new × (t ≡ taken new s)
 unfolding TakesOver IsRefused
 done s t c text is h = elim (either s text t reply.Done (swaps_to s t c text reply.Done is h)) [
@@ -54,7 +54,7 @@ done s t c text is h = elim (either s text t reply.Done (swaps_to s t c text rep
   | inr (f, g, is, r) ↦ absurd (let x = r in cc)
 ]
 
--- a swap that is refused changed nothing, and is refused for the first fault of its text
+-- a refused swap changed nothing, and was refused for the first fault of its text
 pub unchanged : (s t : RouterState) (c : Call) (text : List ℕ) (why : Refusal) → swap_text c ≡ Some text → Answers s c t (reply.Refused why)
     → (t ≡ s) × ((f : ConfigFault) × IsFirstFault text f × (why ≡ refusal.Config f))
 unfolding TakesOver IsRefused
@@ -63,7 +63,7 @@ unchanged s t c text why asks h = elim (either s text t (reply.Refused why) (swa
   | inr (f, g, is, r) ↦ (is, (f, g, (let x = r in cc)))
 ]
 
--- ---- a call has one answer
+-- ---- a call has at most one reply
 
 Same : RouterState → RouterState → Reply → Reply → Type 0
 Same t u q r = (t ≡ u) × (q ≡ r)

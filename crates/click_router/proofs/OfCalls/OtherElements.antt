@@ -1,4 +1,4 @@
--- An element is found as it was, whatever stands in another place.
+-- A change of one element does not change how another one is found.
 use Rattle.std.proofs.Common.{◌≡◌, ℕ, zero, suc, List, [], ◌∷◌, Option, None, Some, true, slice_get, slice_set, option_map, refl, ap}
 use Rattle.std.specs.Prelude.{option_and_then}
 use Rattle.std.specs.List.{list_any}

@@ -1,4 +1,4 @@
--- The router has a handler of each name of its own.
+-- The code has a global handler for each name of the definition.
 use Rattle.std.proofs.Common.{◌≡◌, ℕ, List, codes, true, Option, Some, None, refl, sym, ap}
 use Rattle.std.specs.Option.{is_some, MatchOption}
 use Rattle.click_router.specs.Globals.{global_value, class_list}
@@ -20,7 +20,7 @@ pub classes_value : (s : RouterState) → global_value s (codes "classes") ≡ S
 unfolding global_value
 classes_value s = refl
 
--- a name is one of these just where the router has a handler of that name
+-- the code finds a handler with this name if and only if the definition has a value for it
 pub has : (r : Option GlobalHandler) (name : List ℕ) → MatchOption r ((s : RouterState) → global_value s name ≡ None) (λ h. name ≡ name_of h) →
     (s : RouterState) → is_some r ≡ is_some (global_value s name)
 has None name e s = ap is_some (sym (e s))

@@ -1,4 +1,4 @@
--- A router begins in order, and each call that is answered leaves it so.
+-- A router begins in order, and each answered call leaves it in order.
 use Rattle.std.proofs.Common.{◌≡◌, ℕ, zero, suc, List, [], ◌∷◌, length, map, Bool, true, false, if◌then◌else◌, Option, Some, None, Result, Ok, Err, option_map, slice_get, refl, sym, ◌∙◌, subst}
 use Rattle.std.specs.Prelude.{option_and_then, is_some}
 use Rattle.std.specs.List.{All, list_any}
@@ -61,13 +61,13 @@ opened-in-order text s o =
     } in
     begins-in-order (net_of s.flat b.states) b.states s.plant b.started refl net (fresh-set es b.states b.fresh) (fresh-sound-all es b.states b.fresh)
 
--- ---- what a call leaves
+-- ---- the state after a call
 
 swapped : (s : RouterState) (text : List ℕ) (t : RouterState) (r : Reply) → IsInOrder s.plant → Swaps s text t r → IsInOrder t.plant
 swapped s text _ _ h (installed new o) = taken-in-order new.plant s.plant (opened-in-order text new o)
 swapped s text _ _ h (refused f g) = h
 
--- what a function leaves is left by its answer
+-- the state of a call's result is in order if that of the function is
 left : (p : RouterState × Reply) (t : RouterState) (r : Reply) → p ≡ (t, r) → IsInOrder p.0.plant → IsInOrder t.plant
 left p t r is h = subst (λ (q : RouterState × Reply). IsInOrder q.0.plant) is h
 
@@ -117,7 +117,7 @@ pub arrivals-in-order : (v : Plant) (device : List ℕ) (ps : List Packet) → I
 arrivals-in-order v device [] h = h
 arrivals-in-order v device (p ∷ ps) h = arrivals-in-order (arrive v device p) device ps (arrive-in-order v device p h)
 
--- what a device's packets leave, and what a device that takes one does, by the place of its element
+-- the results of entering packets and of taking one, by the index of the device's element
 abbrev entered_by : RouterState → List ℕ → List Packet → Option ℕ → RouterState × Reply
 entered_by s device ps o = elim o [ None ↦ (s, reply.NoDevice) | Some at ↦ (record s { plant = arrivals s.plant device ps }, reply.Entered (length ps)) ]
 

@@ -1,4 +1,5 @@
--- With a text of the same names each element takes over from itself.
+-- After a swap to a text with the same names, each element takes over from the one at its own
+-- index.
 use Rattle.std.proofs.Common.{◌≡◌, ℕ, zero, suc, ◌+◌, ◌<◌, List, [], ◌∷◌, length, Some, slice_get, option_and_then, option_map, get_or, refl, sym, ap, ◌∙◌, subst, arith}
 use Rattle.click_classes.specs.Fitting.{FitsPorts}
 use Rattle.click_classes.specs.State.{class}
@@ -52,7 +53,7 @@ takes_from_itself old new text at e before o same here there =
     let is : named old.plant n.0 ≡ Some before = ap (λ p. option_and_then (slice_get old.plant.elements) p) found ∙ there in
     each_by_name old.plant new.plant.net.names new.plant.elements at n.0 e n.1 here ∙ ap (λ x. Some (with_taken_over e x)) is
 
--- Where the nets are the same, an element has the class and the outputs of the one at its place.
+-- If the nets are equal, an element has the class and the outputs of the old one at its index.
 
 gets_it : (es : List Element) (at : ℕ) (e : Element) → slice_get es at ≡ Some e → get_or es at blank ≡ e
 gets_it [] at e h = absurd (let k = h in cc)

@@ -1,4 +1,4 @@
--- What calls leave as it was.
+-- The parts of a router that calls leave unchanged.
 use Rattle.std.proofs.Common.{◌≡◌, inl, inr, ℕ, List, [], ◌∷◌, refl, ap, ◌∙◌}
 use Rattle.click_packet.specs.Packet.{Packet}
 use Rattle.click_engine.specs.Plant.{Plant}
@@ -16,7 +16,7 @@ arrivals-net v device (p ∷ ps) = arrivals-net (arrive v device p) device ps �
 pub round-net : (v : Plant) → (round v).plant.net ≡ v.net
 round-net v = ap (λ (x : Plant). x.net) (round-settings v).rest
 
--- a fault that is not want of memory
+-- a fault other than out of memory
 pub other_fault : (P : Type 0) (f : ConfigFault) → (f.kind ≡ kind.NoMemory → ⊥) → IsMemoryOr f P → P
 other_fault P f ne (inl m) = absurd (ne (ap (λ (x : ConfigFault). x.kind) m))
 other_fault P f ne (inr p) = p

@@ -1,4 +1,4 @@
--- The names of a flat form's elements are distinct, so that each element is found by its name.
+-- The names of the elements of a flat form are distinct, so each element is found by its name.
 use Rattle.std.proofs.Common.{◌≡◌, ℕ, zero, suc, ◌+◌, ◌<◌, List, [], ◌∷◌, map, length, Bool, true, false, cond, Option, Some, slice_get, get_or, position, Contains, refl, sym, ap, ◌∙◌, subst, arith}
 use Rattle.std.specs.List.{position_from}
 use Rattle.std.specs.Str.{bytes_eq}
@@ -49,6 +49,6 @@ from (n ∷ ns) k (suc at) name d h =
     let e : (k + 1) + at ≡ k + suc at = omega arith in
     later (bytes_eq name n) name n k (position_from (bytes_eq name) (k + 1) ns) refl apart ∙ (from ns (k + 1) at name d.1 h ∙ ap Some e)
 
--- where a name stands among distinct ones, it is found
+-- a name among distinct ones is found at its index
 pub at_its_place : (names : List (List ℕ)) (at : ℕ) (name : List ℕ) → AreDistinct names → slice_get names at ≡ Some name → position (bytes_eq name) names ≡ Some at
 at_its_place names at name d h = let e : 0 + at ≡ at = omega arith in position_from-zero (bytes_eq name) names ∙ (from names 0 at name d h ∙ ap Some e)

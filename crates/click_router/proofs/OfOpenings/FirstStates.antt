@@ -1,4 +1,4 @@
--- First states, one after another.
+-- Lemmas about the first states of a list of elements.
 use Rattle.std.proofs.Common.{◌≡◌, inl, inr, ℕ, ◌+◌, ◌<◌, List, [], ◌∷◌, ◌++◌, length, get_or, take, drop, Some, Result, Ok, Err, refl, sym, ap, ◌∙◌, subst, suc}
 use Rattle.std.proofs.lemmas.List.{take_more, drop_more, take-append-drop}
 use Rattle.click_classes.specs.Made.{IsMade}
@@ -28,7 +28,7 @@ length_fresh (e ∷ es) (q ∷ qs) h = ap suc (length_fresh es qs h.1)
 begun-class : (e : FlatElement) (q : State) → IsBegun e (Ok q) → e.class ≡ class q
 begun-class e q h = sym (first_well e.class _ q h.fresh).0
 
--- first states are of their elements' classes
+-- first states are of the elements' classes
 pub states_of : (es : List FlatElement) (qs : List State) → AreFresh es qs → AreStatesOf es qs
 states_of [] [] h = refl
 states_of [] (q ∷ qs) h = absurd h
@@ -37,7 +37,7 @@ states_of (e ∷ es) (q ∷ qs) h =
     let x = begun-class e q h.0 in
     let xs = states_of es qs h.1 in cc
 
--- ---- one first state, or one fault
+-- ---- at most one first state, or one fault
 
 pub begun_once : (e : FlatElement) (r s : Result State ArgFault) → IsBegun e r → IsBegun e s → r ≡ s
 begun_once e r s h k = one_made e.class e.text r s h k
@@ -53,21 +53,21 @@ same_states (e ∷ es) [] rs h k = absurd h
 same_states (e ∷ es) (q ∷ qs) [] h k = absurd k
 same_states (e ∷ es) (q ∷ qs) (r ∷ rs) h k = ap (λ x. x ∷ qs) (same_state e q r h.0 k.0) ∙ ap (λ xs. r ∷ xs) (same_states es qs rs h.1 k.1)
 
--- an element whose arguments are refused has no first state
+-- an element that refuses its arguments has no first state
 pub refused_state : (fit : List FlatElement) (e : FlatElement) (more : List FlatElement) (qs : List State) (f : ArgFault) → AreFresh (fit ++ e ∷ more) qs → IsBegun e (Err f) → ⊥
 refused_state [] e more [] f h b = h
 refused_state [] e more (q ∷ qs) f h b = let p = begun_once e (Ok q) (Err f) h.0 b in cc
 refused_state (d ∷ fit) e more [] f h b = h
 refused_state (d ∷ fit) e more (q ∷ qs) f h b = refused_state fit e more qs f h.1 b
 
--- the first element whose arguments are refused
+-- the fault of the first element that refuses its arguments
 pub unfit : (es fit : List FlatElement) (e : FlatElement) (more : List FlatElement) (qs : List State) (f : ConfigFault) → es ≡ fit ++ e ∷ more → AreFresh fit qs →
     IsMemoryOr f ((fault : ArgFault) × IsBegun e (Err fault) × (f ≡ of_argument_fault e fault)) → IsMemoryOr f (IsUnfit es f)
 unfit es fit e more qs f splits fresh (inl m) = inl m
 unfit es fit e more qs f splits fresh (inr (fault, b, is)) =
     inr (record { fit = fit; element = e; more = more; splits = splits; states = qs; fresh = fresh; fault = fault; refused = b; is = is })
 
--- ---- places in a list
+-- ---- items of a list, by index
 
 module _ (es : List FlatElement) (i : ℕ) (e : FlatElement) (l : i < length es) (is : e ≡ get_or es i e) where
   pub taken : take (i + 1) es ≡ take i es ++ e ∷ []

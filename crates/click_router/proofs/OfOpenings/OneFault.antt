@@ -1,4 +1,4 @@
--- A text has one first fault, and none where it opens.
+-- A text has at most one first fault, and none if it opens a router.
 use Rattle.std.proofs.Common.{◌≡◌, ◌⊎◌, ℕ, ◌≤◌, List, [], ◌∷◌, ◌++◌, length, Err, refl, sym, ap, ◌∙◌, subst, inl, inr, arith}
 use Rattle.click_text.specs.declared.syntax.Config.{Config}
 use Rattle.click_text.specs.declared.syntax.TextFault.{TextFault}
@@ -35,9 +35,9 @@ layer _ _ (unfit text config flat fit e more states f within spells h splits fre
 layer _ _ (unlawful text config flat states b within spells h fresh first) =
     inr (config, within, spells, inr (flat, h, inr (record { states = states; fresh = fresh; breach = b; first = first; is = refl })))
 
--- ---- one configuration has one fault
+-- ---- a configuration has at most one fault
 
--- the first element whose arguments are refused is one
+-- at most one element is the first that refuses its arguments
 same_unfit : (fit others : List FlatElement) (e d : FlatElement) (more rest : List FlatElement) (qs rs : List State) (f g : ArgFault) → fit ++ e ∷ more ≡ others ++ d ∷ rest →
     AreFresh fit qs → AreFresh others rs → IsBegun e (Err f) → IsBegun d (Err g) → of_argument_fault e f ≡ of_argument_fault d g
 same_unfit [] [] e d more rest qs rs f g same h k a b =
@@ -54,7 +54,7 @@ same_unfit (x ∷ fit) (y ∷ others) e d more rest (q ∷ qs) [] f g same h k a
 same_unfit (x ∷ fit) (y ∷ others) e d more rest (q ∷ qs) (r ∷ rs) f g same h k a b =
     let i : fit ++ e ∷ more ≡ others ++ d ∷ rest = cc in same_unfit fit others e d more rest qs rs f g i h.1 k.1 a b
 
--- the first breach is one
+-- at most one breach is the first
 same_breach : (flat : Flat) (f g : ConfigFault) → IsUnlawful flat f → IsUnlawful flat g → f ≡ g
 same_breach flat f g u v =
     let q = same_states flat.elements u.states v.states u.fresh v.fresh in
@@ -81,7 +81,7 @@ module _ (text : List ℕ) (config : Config) (spells : Spells text config) where
       let same = same_flat text config spells flat other h k in
       in_flat other f g (subst (λ (x : Flat). IsUnfit x.elements f ⊎ IsUnlawful x f) same bad) wrong
 
--- ---- one text has one fault
+-- ---- a text has at most one fault
 
 answered_once : (text : List ℕ) (t u : TextFault) → IsAnswered text t → IsAnswered text u → t ≡ u
 answered_once text t u (inl (large, k)) (inl (_, l)) = k ∙ sym l

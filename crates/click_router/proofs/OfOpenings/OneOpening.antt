@@ -1,4 +1,4 @@
--- A configuration opens one state at most, and none where it has a fault.
+-- A configuration opens at most one state, and none if it has a fault.
 use Rattle.std.proofs.Common.{◌≡◌, ℕ, ◌≤◌, List, ◌∷◌, ◌++◌, length, Result, Ok, Err, sym, ap, ◌∙◌, subst, inl, inr}
 use Rattle.std.specs.Result.{IfOk, IfErr}
 use Rattle.click_text.specs.declared.syntax.Config.{Config}
@@ -21,7 +21,7 @@ use Rattle.click_engine.proofs.OfPlants.FirstPlant.{one_beginning}
 router : List ℕ → Flat → Plant → RouterState
 router text flat plant = record { text = text; flat = flat; plant = plant }
 
--- the plant of a flat form begins in one way
+-- at most one plant begins with a flat form
 begins_same : (f g : Flat) (p q : Plant) → f ≡ g → Begins f p → Begins g q → p ≡ q
 begins_same f g p q same h k =
     let fresh = subst (λ (x : Flat). AreFresh x.elements h.states) same h.fresh in
@@ -33,7 +33,7 @@ module _ (text : List ℕ) (config : Config) (spells : Spells text config) where
   pub same_flat : (f g : Flat) → IsFlat config f → IsFlat config g → f ≡ g
   same_flat f g h k = flat-once config (spelled-nested text config spells) f g h k
 
-  -- one state
+  -- at most one state
   pub opens_same : (s t : RouterState) → OpensAs config s.flat s.plant → OpensAs config t.flat t.plant → s.text ≡ t.text → s ≡ t
   unfolding router
   opens_same s t h k e =
@@ -41,7 +41,7 @@ module _ (text : List ℕ) (config : Config) (spells : Spells text config) where
       let q = begins_same s.flat t.flat s.plant t.plant f h.begins k.begins in
       ap (λ x. router x s.flat s.plant) e ∙ ap (λ x. router t.text x s.plant) f ∙ ap (router t.text t.flat) q
 
-  -- what opens is not refused
+  -- a configuration that opens a state is not refused
   pub refused : (f : ConfigFault) (flat : Flat) (plant : Plant) → IsConfigFault config f → OpensAs config flat plant → ⊥
   refused f flat plant (inl (e, h, is)) o = flat-no-fault config (spelled-nested text config spells) flat e o.is_flat h
   refused f flat plant (inr (other, h, inl u)) o =
@@ -54,7 +54,7 @@ module _ (text : List ℕ) (config : Config) (spells : Spells text config) where
       let l : IsLawful other u.states = subst (IsLawful other) q (subst (λ x. IsLawful x states) same o.begins.lawful) in
       lawful-none (net_of other u.states).shapes (net_of other u.states).connections u.breach l u.first.breach
 
-  -- what opens is answered
+  -- the state that a configuration opens is the result, except when out of memory
   pub given : (r : Result RouterState ConfigFault) (s : RouterState) → IfOk r (λ p. OpensAs config p.flat p.plant × (p.text ≡ config.text)) →
       IfErr r (λ f. IsMemoryOr f (IsConfigFault config f)) → OpensAs config s.flat s.plant → s.text ≡ config.text → IsGiven r s
   given (Ok p) s h g o e = opens_same p s h.0 o (h.1 ∙ sym e)
@@ -67,7 +67,7 @@ module _ (text : List ℕ) (config : Config) (spells : Spells text config) where
       subst (IsFirstFault text) (sym u.is) (unfit text config flat u.fit u.element u.more u.states u.fault within spells h u.splits u.fresh u.refused)
   first_fault f within (inr (flat, h, inr u)) = subst (IsFirstFault text) (sym u.is) (unlawful text config flat u.states u.breach within spells h u.fresh u.first)
 
--- a text opens one state
+-- a text opens at most one state
 pub opened_once : (text : List ℕ) (s t : RouterState) → IsOpened text s → IsOpened text t → s ≡ t
 opened_once text s t h k =
     let same = spells_once text h.config k.config h.spells k.spells in

@@ -1,4 +1,4 @@
--- The names of the router's own handlers.
+-- The names of the global handlers that can be read.
 use Rattle.std.specs.Prelude.{ℕ, List, codes}
 use Rattle.click_router.specs.declared.globals.GlobalHandler.{GlobalHandler}
 use Rattle.click_router.specs.declared.globals.GlobalHandler.TheVariants as handler

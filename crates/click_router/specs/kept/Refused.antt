@@ -1,4 +1,4 @@
--- Why a configuration that is spelled opens no router.
+-- The reasons why a configuration that parses opens no router.
 use Rattle.std.specs.Prelude.{◌≡◌, ◌⊎◌, List, ◌∷◌, ◌++◌, Err}
 use Rattle.click_text.specs.declared.syntax.Config.{Config}
 use Rattle.click_expand.specs.Flat.{IsFlat, IsFlatFault}
@@ -13,7 +13,7 @@ use Rattle.click_ports.specs.declared.fault.PortFault.{PortFault}
 use Rattle.click_router.specs.Opened.{AreFresh, IsBegun, of_expand_fault, of_argument_fault, of_port_fault}
 use Rattle.click_router.specs.declared.fault.ConfigFault.{ConfigFault}
 
--- the first element whose arguments are refused
+-- the fault of the first element that refuses its arguments
 pub record IsUnfit (es : List FlatElement) (f : ConfigFault) : Type 0 where
   pub fit : List FlatElement
   pub element : FlatElement
@@ -25,7 +25,7 @@ pub record IsUnfit (es : List FlatElement) (f : ConfigFault) : Type 0 where
   pub refused : IsBegun element (Err fault)
   pub is : f ≡ of_argument_fault element fault
 
--- the first breach of the rules of ports
+-- the first breach of a port rule
 pub record IsUnlawful (flat : Flat) (f : ConfigFault) : Type 0 where
   pub states : List State
   pub fresh : AreFresh flat.elements states
@@ -33,7 +33,7 @@ pub record IsUnlawful (flat : Flat) (f : ConfigFault) : Type 0 where
   pub first : IsFirstBreach (net_of flat states).shapes (net_of flat states).connections breach
   pub is : f ≡ of_port_fault flat.elements breach
 
--- the first fault of a configuration: of its flat form, of an element's arguments, of its ports
+-- the first fault of a configuration: of its flat form, of an element's arguments, or of its ports
 abbrev pub IsConfigFault : Config → ConfigFault → Type 0
 IsConfigFault config f =
     ((e : ExpandFault) × IsFlatFault config e × (f ≡ of_expand_fault config.text e))

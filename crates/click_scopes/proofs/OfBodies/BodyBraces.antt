@@ -1,4 +1,4 @@
--- The braces of a text's bodies stand in it.
+-- The braces of a text's bodies are inside the text.
 use Rattle.std.proofs.Common.{◌≡◌, ℕ, suc, zero, ◌+◌, ◌<◌, ◌≤◌, List, [], ◌∷◌, take, drop, length, Option, Some, sym, ◌∙◌, subst, arith}
 use Rattle.std.specs.List.{slice_get}
 use Rattle.std.proofs.lemmas.List.{length-drop}
@@ -23,7 +23,7 @@ use Rattle.click_scopes.specs.kept.Standing.{Each}
 use Rattle.click_scopes.specs.kept.FirstFault.{AreShort}
 use Rattle.click_scopes.proofs.OfLists.StatementTables.{each-append}
 
--- an open brace begins before the end of a text of that many bytes
+-- an opening brace begins before the end of a text of m bytes
 abbrev OpensBefore : ℕ → Token → Type 0
 OpensBefore m (token.Open s) = s.start + 1 ≤ m
 OpensBefore m _ = Unit {0}
@@ -73,7 +73,7 @@ reads-open at m text ts e q (takes at' text' ts' e' k n tok l t r) =
 reads-open at m text ts e q (stuck at' text' l f) = tt
 
 module _ (m : ℕ) where
-  -- what is left of tokens, and the bodies that are closed
+  -- holds of the tokens that are left, and of the bodies that were closed
   abbrev Rest : List Token → List Body → Type 0
   Rest ts bs = Each (OpensBefore m) ts × Each (BeginsBefore m) bs
 
@@ -144,7 +144,7 @@ each-at P [] i x h e = absurd (cc e)
 each-at P (y ∷ xs) zero x h e = subst P (some_same e) h.0
 each-at P (y ∷ xs) (suc i) x h e = each-at P xs i x h.1 e
 
--- each body begins before the last byte of its text ends
+-- each body begins before the end of the text
 pub spelled-within : (text : List ℕ) (c : Config) → Spells text c → (b : ℕ) (x : Body) → slice_get c.bodies b ≡ Some x → x.span.start + 1 ≤ length text
 spelled-within text c h b x e =
     let o = reads-open 0 (length text) text h.tokens _ (omega arith) h.pieces in
@@ -153,6 +153,6 @@ spelled-within text c h b x e =
 below-limit : (a m n : ℕ) → a ≤ m → m < n → a < n
 below-limit a m n p q = omega (arith, p, q)
 
--- the bodies of a text that memory holds
+-- the bodies of a text that fits in memory
 pub spelled-short : (text : List ℕ) (c : Config) → Spells text c → length text < 18446744073709551616 → AreShort c.bodies
 spelled-short text c h l = λ b x e. below-limit (x.span.start + 1) (length text) 18446744073709551616 (spelled-within text c h b x e) l

@@ -1,4 +1,4 @@
--- Each body of a nested configuration stands in some scope.
+-- Each body of a nested configuration is in some scope.
 use Rattle.std.proofs.Common.{◌≡◌, inl, inr, ℕ, suc, ◌+◌, ◌<◌, ◌≤◌, List, [], ◌∷◌, ◌++◌, reverse, length, refl, ap, sym, subst, arith, Contains}
 use Rattle.std.specs.List.{slice_get}
 use Rattle.std.proofs.lemmas.Bool.{cases_order}
@@ -8,7 +8,7 @@ use Rattle.click_text.specs.declared.syntax.Config.{Config}
 use Rattle.click_scopes.specs.Scopes.{Scope, whole, inside, bodies_in, body_statements, statements_of, Stands, at_top, nested}
 use Rattle.click_scopes.specs.kept.Nesting.{direct, Nests, no_bodies, next_body, IsNested}
 
--- The statement that a body stands in.
+-- The statement that contains the body.
 pub record Holds (ss : List Statement) (b : ℕ) : Type 0 where
   pub before : List Statement
   pub after : List Statement
@@ -27,7 +27,7 @@ holds (s ∷ ss) b h =
     ]
 
 module _ (c : Config) where
-  -- Where a scope stands.
+  -- The scope occurs in the configuration.
   pub record IsPlaced (s : Scope) : Type 0 where
     pub visible : List Statement
     pub enclosing : List Scope

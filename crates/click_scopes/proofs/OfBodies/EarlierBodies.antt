@@ -1,4 +1,5 @@
--- A scope's elements mean bodies that stand before its own place, in it or in a scope around it.
+-- An element of a scope that means a body means one with a lower index than the scope, which is in
+-- the scope or in a scope around it.
 use Rattle.std.proofs.Common.{◌≡◌, inl, inr, ℕ, ◌+◌, ◌<◌, ◌≤◌, List, [], ◌∷◌, ◌++◌, map, reverse, Bool, true, false, Option, Some, None, option_map, refl, sym, ap, ◌∙◌, subst, append_assoc, arith, Contains}
 use Rattle.std.specs.Prelude.{if◌then◌else◌}
 use Rattle.std.specs.List.{slice_get}
@@ -28,7 +29,7 @@ use Rattle.click_scopes.specs.kept.Scoped.{table_place}
 use Rattle.click_scopes.proofs.OfBodies.OneBodyPlace.{contains-nil, contains-cons, inner, nests-order, nested_body-range, direct-has}
 use Rattle.click_scopes.proofs.OfLists.ListParts.{contains-here, contains-behind, contains-map, reverse-cons, contains-reverse, contains-split, contains-at}
 
--- Where an element that is written in these statements stands.
+-- The statement that contains the written element.
 pub record IsPlaced (visible statements : List Statement) (p : Placed) : Type 0 where
   pub before : List Statement
   pub after : List Statement
@@ -63,7 +64,7 @@ placed-there visible (s ∷ ss) p h =
           })
     ]
 
--- An element of a scope is one of those that are written in it and make one.
+-- An element of a scope is made by one of its written elements.
 pub record IsMade (text : List ℕ) (in_body : Bool) (declared : List (List ℕ)) (ps : List Placed) (l : ScopeElement) : Type 0 where
   pub number : ℕ
   pub element : Placed
@@ -92,7 +93,7 @@ module _ (text : List ℕ) (in_body : Bool) (declared : List (List ℕ)) where
       let r = role text in_body declared p.element in
       made-by n p ps (scope_elements_from text in_body declared (count_with r n) ps) l r refl h (λ i. scope_element-made (count_with r n) ps l i)
 
--- the bodies that an element is of
+-- the bodies in the head of an element
 module _ (b : ℕ) where
   head-body : (h : Head) → head_class h ≡ class.Body b → Contains (head_bodies h) b
   head-body (head.Word s) e = absurd (cc)
@@ -120,7 +121,7 @@ module _ (b : ℕ) where
   element-body (statement.Synonym n d) e h k = absurd (contains-nil e h)
   element-body (statement.Requirement t) e h k = absurd (contains-nil e h)
 
--- a class that means a body is defined
+-- a definition of the body is visible
 abbrev Defines : List Statement → ℕ → Type 0
 Defines v b = (n : Span) × Contains v (statement.Definition n b)
 
@@ -154,7 +155,7 @@ defined text (statement.Chain k ∷ v) w b e = defines-behind (statement.Chain k
 defined text (statement.Declaration k ∷ v) w b e = defines-behind (statement.Declaration k) v b (defined text v w b e)
 defined text (statement.Requirement k ∷ v) w b e = defines-behind (statement.Requirement k) v b (defined text v w b e)
 
--- A body that stands in one of these scopes, below a limit.
+-- The body is in one of these scopes, and its index is below the limit.
 pub record IsKnown (c : Config) (scopes : List Scope) (b limit : ℕ) : Type 0 where
   pub inner : List Statement
   pub outer : List Scope
@@ -168,7 +169,7 @@ direct-append [] ys = refl
 direct-append (x ∷ xs) ys = ap (λ z. bodies_in x ++ z) (direct-append xs ys) ∙ sym (append_assoc (bodies_in x) (direct xs) (direct ys))
 
 module _ (bodies : List Body) where
-  -- the bodies in a body stand after those that stand before it
+  -- the bodies inside body p come after the bodies xs
   record StartsAt (a : ℕ) (xs : List ℕ) (p : ℕ) : Type 0 where
     pub start : ℕ
     pub nests : Nests bodies start (inner bodies p) p
@@ -197,7 +198,7 @@ module _ (bodies : List Body) where
         behind = λ b j. elim (contains-cons x xs b j) [ inl e ↦ omega (arith, e, f) | inr l ↦ r.behind b l ];
       }
 
--- The bodies of a scope begin after all that is defined before it.
+-- The bodies of a scope come after all bodies that are defined before it.
 record IsStarted (c : Config) (s : Scope) (visible : List Statement) (enclosing : List Scope) : Type 0 where
   pub start : ℕ
   pub nests : Nests c.bodies start (direct (statements_of c s)) (table_place c s)
@@ -207,7 +208,7 @@ known-more : (c : Config) (s : Scope) (scopes : List Scope) (b limit more : ℕ)
 known-more c s scopes b limit more l k =
     let m = k.below in record { inner = k.inner; outer = k.outer; stands = k.stands; below = omega arith; front = s ∷ k.front; is = ap (λ x. s ∷ x) k.is }
 
--- what is defined in a scope
+-- a body that is defined in a scope
 known-here : (c : Config) (s : Scope) (visible : List Statement) (enclosing : List Scope) (before rest : List Statement) (n : Span) (b limit : ℕ) → Stands c s visible enclosing →
     statements_of c s ≡ before ++ rest → Contains before (statement.Definition n b) → b < limit → IsKnown c (s ∷ enclosing) b limit
 known-here c s visible enclosing before rest n b limit h e i l =
@@ -247,7 +248,7 @@ started c m s visible enclosing (nested t v a before after st p h e i) =
       ];
     }
 
--- what is defined and visible at a place of a scope
+-- a body whose definition is visible at a statement of a scope
 known-behind : (c : Config) → IsNested c → (s : Scope) (visible : List Statement) (enclosing : List Scope) (before rest : List Statement) (b : ℕ) → Stands c s visible enclosing →
     statements_of c s ≡ before ++ rest → Defines (reverse before ++ visible) b → IsKnown c (s ∷ enclosing) b (table_place c s)
 known-behind c m s visible enclosing before rest b h e d =
@@ -263,7 +264,7 @@ known-behind c m s visible enclosing before rest b h e d =
       | inr q ↦ known-more c s enclosing b r.start (table_place c s) o (r.each n b q)
     ]
 
--- a body that stands in a scope
+-- a body in a statement of a scope
 known-body : (c : Config) → IsNested c → (s : Scope) (visible : List Statement) (enclosing : List Scope) (before after : List Statement) (st : Statement) (b : ℕ) →
     Stands c s visible enclosing → statements_of c s ≡ before ++ st ∷ after → Contains (bodies_in st) b → IsKnown c (s ∷ enclosing) b (table_place c s)
 known-body c m s visible enclosing before after st b h e i =
@@ -287,7 +288,7 @@ by-class c m s visible enclosing p b (class.Body d) h i e f =
     let g : d ≡ b = cc in
     known-body c m s visible enclosing i.before i.after i.statement b h i.splits (element-body b i.statement p.element i.there (e ∙ ap class.Body g))
 
--- an element that is written in a scope and means a body
+-- a written element of a scope that means a body
 pub founded-written : (c : Config) → IsNested c → (s : Scope) (visible : List Statement) (enclosing : List Scope) → Stands c s visible enclosing → (p : Placed) (b : ℕ) →
     Contains (scope_placed c s visible) p → element_meaning c.text p ≡ Some (compound b) → IsKnown c (s ∷ enclosing) b (table_place c s)
 founded-written c m s visible enclosing h p b i e =
@@ -300,7 +301,7 @@ founded c m s visible enclosing h l b i e =
     let r = scope_element-made c.text (is_body s) (scope_declared c s visible) 0 (scope_placed c s visible) l i in
     founded-written c m s visible enclosing h r.element b r.there (sym (ap (λ (x : ScopeElement). x.meaning) r.is) ∙ e)
 
--- the same by the element's place
+-- an element of a scope, by its index, that means a body
 pub founded-at : (c : Config) → IsNested c → (s : Scope) (visible : List Statement) (enclosing : List Scope) → Stands c s visible enclosing → (i : ℕ) (l : ScopeElement) (b : ℕ) →
     slice_get (elements_of_scope c s visible) i ≡ Some l → l.meaning ≡ Some (compound b) → IsKnown c (s ∷ enclosing) b (table_place c s)
 founded-at c m s visible enclosing h i l b there e = founded c m s visible enclosing h l b (contains-at (elements_of_scope c s visible) i l there) e

@@ -1,4 +1,4 @@
--- The bodies of a configuration that a text spells stand in one another.
+-- The bodies of a configuration that a text spells are nested.
 use Rattle.std.proofs.Common.{◌≡◌, ℕ, suc, zero, ◌+◌, ◌<◌, ◌≤◌, List, [], ◌∷◌, ◌++◌, length, Some, refl, sym, ap, ◌∙◌, append_assoc, subst, arith}
 use Rattle.std.specs.List.{slice_get}
 use Rattle.std.proofs.lemmas.List.{append-nil, length_push}
@@ -39,7 +39,8 @@ pub nests-append : (bodies : List Body) (a : ℕ) (rs : List ℕ) (m : ℕ) (ts 
 nests-append bodies a rs m ts z (no_bodies at) k = k
 nests-append bodies a rs m ts z (next_body from b to bs l h g) k = next_body from b z (bs ++ ts) l h (nests-append bodies (b + 1) bs to ts z g k)
 
--- what closing bodies of these places, and those inside them, adds
+-- the bodies with the indices rs, and those inside them, were closed: they were appended to bs, and
+-- are nested
 pub record Grown (bs new : List Body) (rs : List ℕ) : Type 0 where
   pub more : List Body
   pub is : new ≡ bs ++ more
@@ -102,6 +103,6 @@ mutual
   statements_grow (stated {bs = bs} {bs1 = bs1} {bs2 = bs2} {s = s} {ss = ss} r q) =
       grown-append bs bs1 bs2 (bodies_in s) (direct ss) (statement_grows r) (statements_grow q)
 
--- what a text spells is nested
+-- a configuration that a text spells is nested
 pub spelled-nested : (text : List ℕ) (c : Config) → Spells text c → IsNested c
 spelled-nested text c h = (statements_grow h.tree).nests

@@ -1,4 +1,5 @@
--- A body stands in one place, with the same scopes around it and the same statements before it.
+-- A body is in one place only: the scopes around it, and the statements before it in them, are
+-- determined.
 use Rattle.std.proofs.Common.{◌≡◌, ◌⊎◌, inl, inr, ℕ, suc, zero, ◌+◌, ◌<◌, ◌≤◌, List, [], ◌∷◌, ◌++◌, reverse, length, refl, sym, ap, ◌∙◌, subst, arith, Contains}
 use Rattle.std.specs.List.{slice_get}
 use Rattle.std.proofs.lemmas.Option.{slice_get_past}
@@ -21,7 +22,7 @@ order : (p c : ℕ) → (p < c) ⊎ ((p ≡ c) ⊎ (c < p))
 order p c = elim (cases_order p c) [ inl e ↦ inr (inl e) | inr (inl l) ↦ inl l | inr (inr g) ↦ inr (inr g) ]
 
 module _ (bodies : List Body) where
-  -- the statements of a body
+  -- the bodies in the statements of body p
   abbrev pub inner : ℕ → List ℕ
   inner p = direct (body_statements (slice_get bodies p))
 
@@ -39,7 +40,7 @@ module _ (bodies : List Body) where
         | inr j ↦ (let r = nested_body-range (c + 1) bs to b k j in (omega (arith, r.0), omega (arith, r.1)))
       ]
 
-  -- a body stands before the one that it stands in
+  -- a body has a lower index than the body that contains it
   pub child-range : (a : ℕ) (rs : List ℕ) (z : ℕ) (p b : ℕ) → Nests bodies a rs z → a ≤ p → p < z → Contains (inner p) b → (a ≤ b) × (b < p)
   child-range a rs z p b (no_bodies at) l m i = absurd (omega (arith, l, m))
   child-range a rs z p b (next_body from c to bs n h k) l m i =
@@ -119,7 +120,7 @@ module _ (bodies : List Body) where
       let r = split-once xs ys after after' st st' m.0 z b t m.1 i j in
       ap (λ w. w ∷ xs) s ∙ ap (λ w. y ∷ w) r
 
--- a scope's place is among the bodies, where something stands in it
+-- an index at which a body contains another one is an index of a body
 pub place-in : (bodies : List Body) (p b : ℕ) → Contains (inner bodies p) b → p < length bodies
 place-in bodies p b i =
     elim (cases_lt p (length bodies)) [
@@ -149,7 +150,7 @@ scope-nests c n whole b i = (0, length c.bodies, n)
 scope-nests c n (inside p) b i =
     let r = nests-of c.bodies 0 (direct c.statements) (length c.bodies) p n (omega arith) (place-in c.bodies p b i) in (r.0, p, r.1)
 
--- what is visible before a scope and the scopes around it are known from its place
+-- the index of a scope determines what is visible before it and the scopes around it
 pub stands-once : (c : Config) → IsNested c → (s : Scope) (v v' : List Statement) (a a' : List Scope) → Stands c s v a → Stands c s v' a' → (v ≡ v') × (a ≡ a')
 stands-once c n s v v' a a' at_top at_top = (refl, refl)
 stands-once c n s v v' a a' (nested t visible enclosing before after st b h e i) (nested t' visible' enclosing' before' after' st' b' h' e' i') =

@@ -28,7 +28,7 @@ use Rattle.click_scopes.proofs.OfBodies.OneBodyPlace.{inner, direct-has, child-r
 abbrev pub places : List NestedBody → List ℕ
 places rs = map (λ (r : NestedBody). r.body) rs
 
--- the last of the bodies that are left
+-- the bodies with indices from a to below z: xs with those inside them, those inside b, and b
 pub record LastBody (bodies : List Body) (a : ℕ) (xs : List ℕ) (b z : ℕ) : Type 0 where
   pub next : b + 1 ≡ z
   pub within : b < length bodies
@@ -46,7 +46,7 @@ nests-last bodies a (x ∷ xs) b z (next_body from c to bs n h k) =
     record { next = r.next; within = r.within; middle = r.middle; before = next_body a x r.middle xs n h r.before; inside = r.inside }
 
 module _ (c : Config) where
-  -- A body that is left, and where it stands.
+  -- A body that is still to be visited, with its scopes and the statements before it.
   pub record IsPending (es : List ClassEntry) (r : NestedBody) : Type 0 where
     pub visible : List Statement
     pub enclosing : List Scope
@@ -59,11 +59,11 @@ module _ (c : Config) where
   HasAll es s v = (before after : List Statement) (n w : Span) → statements_of c s ≡ before ++ statement.Synonym n w ∷ after →
       HasSynonym c.text es w (meaning c.text (reverse before ++ v) (bytes_at c.text w))
 
-  -- the definitions with an original are synonyms
+  -- the definitions with an original word are synonyms
   abbrev pub AreSound : List ClassEntry → Type 0
   AreSound es = (i : ℕ) (e : ClassEntry) (w : Span) → slice_get es i ≡ Some e → e.original ≡ Some w → IsSynonym c w (meaning_by e.class)
 
-  -- A body that is done.
+  -- The body with index p is done.
   pub record IsDone (es : List ClassEntry) (ks : List WrittenScope) (p : ℕ) : Type 0 where
     pub visible : List Statement
     pub enclosing : List Scope
@@ -73,7 +73,8 @@ module _ (c : Config) where
     pub is : IsWrittenScope c es (inside p) visible enclosing scope
     pub synonyms : HasAll es (inside p) visible
 
-  -- The whole text and all bodies from a place on are done; those that are left stand before it.
+  -- The whole text and all bodies from index `left` on are done. The bodies that are still to be
+  -- visited have lower indices.
   pub record Walked (es : List ClassEntry) (rs : List NestedBody) (ks : List WrittenScope) : Type 0 where
     pub left : ℕ
     pub count : left + length ks ≡ length c.bodies + 1
@@ -151,7 +152,7 @@ module _ (c : Config) where
   each-front P [] y h = (tt, h.0)
   each-front P (x ∷ xs) y h = let r = each-front P xs y h.1 in ((h.0, r.0), r.1)
 
-  -- what is known of the body that is taken
+  -- what holds of the body that is taken next
   pub record IsTaken (es : List ClassEntry) (rs : List NestedBody) (r : NestedBody) (ks : List WrittenScope) : Type 0 where
     pub pending : IsPending es r
     pub last : LastBody c.bodies 0 (places rs) r.body (r.body + 1)
@@ -234,7 +235,7 @@ module _ (c : Config) where
             }) t.done l n;
       }
 
-  -- a body stands among all of them
+  -- the index of a body in a scope is an index of a body
   stands-within : IsNested c → (t : Scope) (b : ℕ) → Contains (direct (statements_of c t)) b → b < length c.bodies
   stands-within n whole b i = (nested_body-range c.bodies 0 (direct c.statements) (length c.bodies) b n i).1
   stands-within n (inside q) b i =
@@ -305,7 +306,7 @@ module _ (c : Config) where
       by_scope whole v a h = by_whole v a h
       by_scope (inside p) v a h = by_body p v a h
 
-  -- the same for what the code reads
+  -- the first step of the walk, for the values that the code reads
   pub walk-first : (text : List ℕ) (ss : List Statement) (n : ℕ) (es : List ClassEntry) (rs0 rs : List NestedBody) (ks0 ks : List WrittenScope) (k : WrittenScope) →
       ks ≡ ks0 ++ k ∷ [] → ks0 ≡ [] → rs0 ≡ [] → text ≡ c.text → ss ≡ c.statements → n ≡ length c.bodies → IsNested c →
       AreWritten text es k.written.items (placed [] ss) → written_ports k.written.items ≡ ports_in ss → k.outer ≡ n → AreNestedBodies text es n [] ss rs0 rs →

@@ -1,4 +1,4 @@
--- The scopes of a configuration, by those that are written.
+-- The stored scopes of a configuration, from the written ones.
 use Rattle.std.proofs.Common.{◌≡◌, ℕ, ◌≤◌, List, [], ◌∷◌, length, nat_lt, refl, sym, ap, ◌∙◌, subst, arith}
 use Rattle.std.proofs.lemmas.Option.{slice_get_within}
 use Rattle.click_text.specs.declared.syntax.Element.{Element}
@@ -18,7 +18,7 @@ use Rattle.click_scopes.specs.declared.scopes.Scope.{Scope as ScopeKept}
 use Rattle.click_scopes.proofs.OfElements.ElementTables.{body-place, strings-kept}
 use Rattle.click_scopes.proofs.OfLists.TableRows.{Filled}
 
--- the scope at a place is as it is written
+-- k is the stored form of the written scope at index j
 abbrev pub ScopeAt : Config → List ClassEntry → ℕ → WrittenScope → ScopeKept → Type 0
 ScopeAt c es j w k = IsScopeOf c es (nat_lt j (length c.bodies)) w k
 

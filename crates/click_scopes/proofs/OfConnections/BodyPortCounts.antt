@@ -1,4 +1,4 @@
--- The ports of each body, which do not depend on what is visible before it.
+-- The ports of each body. They do not depend on what is visible before the body.
 use Rattle.std.proofs.Common.{◌≡◌, inl, inr, ℕ, ◌+◌, ◌<◌, ◌≤◌, List, [], ◌∷◌, ◌++◌, map, length, Bool, true, false, cond, None, refl, sym, ap, ◌∙◌, subst, arith, Contains}
 use Rattle.std.specs.List.{slice_get}
 use Rattle.std.specs.Str.{bytes_eq}
@@ -31,7 +31,7 @@ use Rattle.click_scopes.proofs.OfLists.ListParts.{contains-here, contains-behind
 use Rattle.click_scopes.proofs.OfBodies.OneBodyPlace.{contains-nil}
 use Rattle.click_scopes.proofs.OfConnections.EndOwners.{names-placed, some-there}
 
--- Where a body stands.
+-- The body is in some scope.
 pub record StandsSomewhere (c : Config) (b : ℕ) : Type 0 where
   pub visible : List Statement
   pub enclosing : List Scope
@@ -71,7 +71,7 @@ module _ (c : Config) where
   pub body-stands : IsNested c → (b : ℕ) → b < length c.bodies → StandsSomewhere c b
   body-stands n b l = stands-range 0 (direct c.statements) (length c.bodies) n (λ r i. stands-inside whole [] [] at_top r i) b (omega arith) l
 
--- an end that is one of a body's own ports, of that name
+-- the end is one of a body's own ports, with the name w
 abbrev pub is_by : List ℕ → List ℕ → Role → Bool
 is_by w n pseudo = bytes_eq n w
 is_by w n refers = false
@@ -116,7 +116,7 @@ module _ (ls : List ScopeElement) where
   outputs-said (k ∷ ks) (j ∷ js) h =
       ap (to_output k.to.owner k.in_port) (outputs-said ks js h.1) ∙ output-owner k.to.owner j.to h.0.to.owner k.in_port j.in_port h.0.in_port (output_ports js)
 
--- connections of the same ports of a body
+-- two ends are the same of a body's own ports, or neither is one
 abbrev IsAlike : End → End → Type 0
 IsAlike e f = (w : List ℕ) → is_by w e.name e.role ≡ is_by w f.name f.role
 
@@ -243,7 +243,7 @@ no-body c b l =
     subst (λ js. IsPorts (input_ports js) (output_ports js) (ports_or None)) (sym (nothing-there c b (slice_get_past c.bodies b l)))
     (record { ins = refl; outs = refl; gaps = ((λ t. absurd (cc t)), (λ g. absurd (elim g [ inl x ↦ no-gap x | inr x ↦ no-gap x ]))) })
 
--- the ports of the first so many bodies
+-- the ports of the first i bodies
 pub record Counted (c : Config) (all : List Ports) (i : ℕ) : Type 0 where
   pub count : length all ≡ i
   pub each : (b : ℕ) → b < i → IsPorts (inputs_of c b) (outputs_of c b) (ports_or (slice_get all b))

@@ -20,7 +20,7 @@ use Rattle.click_scopes.specs.declared.written_scopes.WrittenElement.{WrittenEle
 use Rattle.click_scopes.specs.declared.written_connections.End.{End as EndKept}
 use Rattle.click_scopes.specs.declared.written_connections.WrittenConnection.{WrittenConnection as ConnectionKept}
 
--- the connections of ends, each with the ports that join it to the one before
+-- the connections between ends; each end has the ports that connect it to the one before
 abbrev pub pairs : Option EndKept → List EndKept → List (Option (ℕ × ℕ)) → List ConnectionKept
 pairs a [] os = []
 pairs a (e ∷ es) [] = []
@@ -38,7 +38,7 @@ cons-last xs None ys = ap (λ zs. zs ++ ys) (sym (append-nil xs))
 cons-last xs (Some x) ys = sym (append_assoc xs (x ∷ []) ys)
 
 module _ (ends : List EndKept) (ws : List WrittenElement) where
-  -- so far these connections
+  -- js are the connections up to index i
   abbrev pub Paired : List ConnectionKept → Option EndKept → ℕ → Type 0
   Paired js a i = js ++ pairs a (drop i ends) (ports_at (drop i ws)) ≡ pairs None ends (ports_at ws)
 
@@ -58,7 +58,7 @@ module _ (ends : List EndKept) (ws : List WrittenElement) where
   paired-all js a i l h =
       sym (append-nil js) ∙ ap (λ xs. js ++ xs) (sym (pairs-none a (drop i ends))) ∙ ap (λ x. js ++ pairs a (drop i ends) (ports_at x)) (sym (drop_all i ws l)) ∙ h
 
--- the connection of two ends, where there is an end before and ports join them
+-- the connection between two ends, if there is an end before and ports connect them
 abbrev pub said_by : Option End → Option (ℕ × ℕ) → End → Option WrittenConnection
 said_by None ports to = None
 said_by (Some from) None to = None
@@ -75,7 +75,7 @@ IsBefore ls (Some k) None = ⊥
 IsBefore ls (Some k) (Some e) = IsEndKept ls k e
 
 module _ (c : Config) (names : ScopeNames) where
-  -- the connections of elements, each with the ports that join it to the one before
+  -- the connections between written elements; each has the ports that connect it to the one before
   abbrev pub flat : Option End → ℕ → List Placed → List (Option (ℕ × ℕ)) → List WrittenConnection
   flat a n [] os = []
   flat a n (p ∷ ps) [] = []

@@ -1,4 +1,4 @@
--- The ends of connections: whose ports they are.
+-- The owners of the ends of connections.
 use Rattle.std.proofs.Common.{◌≡◌, ◌⊎◌, inl, inr, ℕ, suc, zero, ◌+◌, ◌<◌, ◌≤◌, List, [], ◌∷◌, ◌++◌, length, get_or, take, Bool, true, false, ◌&&◌, ◌||◌, cond, Option, Some, None, refl, sym, ap, ◌∙◌, subst, arith, position}
 use Rattle.std.specs.List.{slice_get, position_from, cons_option}
 use Rattle.std.specs.Str.{bytes_eq}
@@ -37,7 +37,7 @@ module _ (c : Config) (names : ScopeNames) where
   numbers-after n (q ∷ ps) (suc i) p h = numbers-after (number_behind c names n q) ps i p h
 
 module _ (text : List ℕ) (b : Bool) (d : List (List ℕ)) where
-  -- an element that makes one, among the elements of its scope
+  -- the written element p makes element m of its scope
   pub record IsMade (n : ℕ) (ps : List Placed) (m : ℕ) (p : Placed) : Type 0 where
     pub place : ℕ
     pub is : m ≡ n + place

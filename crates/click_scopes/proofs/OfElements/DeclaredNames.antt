@@ -1,4 +1,4 @@
--- The names that elements are declared under, and the first of each.
+-- The names under which elements are declared, and the first element of each name.
 use Rattle.std.proofs.Common.{◌≡◌, ℕ, suc, zero, ◌+◌, ◌<◌, ◌≤◌, List, [], ◌∷◌, ◌++◌, length, get_or, take, Bool, true, false, cond, Option, Some, None, refl, sym, ap, ◌∙◌, subst, arith, position}
 use Rattle.std.specs.List.{slice_get, position_from, list_any}
 use Rattle.std.specs.Str.{bytes_eq}
@@ -14,7 +14,7 @@ use Rattle.click_scopes.specs.kept.ConnectionEnds.{at, declares, AreDeclared}
 use Rattle.click_scopes.proofs.OfLists.StatementTables.{slice_get-more, slice_get-last}
 
 module _ {X : Type 0} (p : X → Bool) where
-  -- the first place, or else another one
+  -- the first index, or else the other one
   abbrev pub or_else : Option ℕ → Option ℕ → Option ℕ
   or_else None o = o
   or_else (Some i) o = Some i
@@ -86,7 +86,7 @@ some-within (x ∷ xs) zero l h = cc h
 some-within (x ∷ xs) (suc k) l h = some-within xs k (omega (arith, l)) h
 
 module _ (text : List ℕ) where
-  -- so far as many places stand beside the names
+  -- the names so far, with as many indices
   pub record Declaring (es : List Element) (names : List (List ℕ)) (firsts : List ℕ) : Type 0 where
     pub declared : AreDeclared text es names firsts
     pub as_many : length firsts ≡ length names
@@ -172,7 +172,7 @@ module _ (text : List ℕ) where
           by_test true k = record { declared = record { first = declaring-old k }; as_many = h.as_many }
           by_test false k = record { declared = record { first = declaring-new k }; as_many = length_push firsts (length es) ∙ ap (λ x. x + 1) h.as_many ∙ sym (length_push names n) }
 
--- the first so many elements as written
+-- the first i written elements
 abbrev pub elements_by : List WrittenElement → ℕ → List Element
 elements_by ws i = elements_of (take i ws)
 

@@ -1,4 +1,4 @@
--- The body that an element stands for, and what its class means.
+-- The body that an element stands for, and the meaning of its class.
 use Rattle.std.proofs.Common.{◌≡◌, ℕ, Option, Some, None, ap}
 use Rattle.std.proofs.lemmas.Option.{same_Some}
 use Rattle.click_scopes.specs.Classes.{compound}

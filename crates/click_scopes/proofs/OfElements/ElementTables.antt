@@ -1,4 +1,4 @@
--- The names and strings of the elements of a scope that are kept.
+-- The names and configuration strings of the stored elements of a scope.
 use Rattle.std.proofs.Common.{◌≡◌, ℕ, ◌<◌, List, [], ◌∷◌, map, length, Bool, true, false, ◌&&◌, cond, nat_lt, Option, Some, None, refl, ap, ◌∙◌, arith}
 use Rattle.std.specs.List.{cons_option}
 use Rattle.std.proofs.lemmas.Bool.{lt-ltb, ltb-true}
@@ -21,7 +21,7 @@ use Rattle.click_scopes.specs.declared.scope_elements.ScopeElement.{ScopeElement
 use Rattle.click_scopes.proofs.OfBodies.ScopeWalk.{inside-within}
 
 module _ (text : List ℕ) where
-  -- the names that are declared are those of the elements as they are kept
+  -- the stored elements declare the same names as the written ones
   pub declared-kept : (es : List ClassEntry) (ws : List WrittenElement) (ps : List Placed) → AreWritten text es ws ps → names_declared text (elements_of ws) ≡ declared_names text ps
   declared-kept es [] [] h = refl
   declared-kept es [] (p ∷ ps) h = absurd h
@@ -36,7 +36,7 @@ module _ (text : List ℕ) where
   elements-kept es (w ∷ ws) [] h = absurd h
   elements-kept es (w ∷ ws) (p ∷ ps) h = ap (λ x. x ∷ elements_of ws) h.0.element ∙ ap (λ xs. p.element ∷ xs) (elements-kept es ws ps h.1)
 
-  -- the strings of a scope's elements as they are written
+  -- the configuration strings of the stored elements are those of the written ones
   pub strings-kept : (es : List ClassEntry) (in_body : Bool) (ws : List WrittenElement) (ps : List Placed) (ls : List ScopeElementKept) → AreWritten text es ws ps → AreStringsOf text in_body ws ls →
       strings_of ls ≡ strings_made text in_body (declared_names text ps) (map (λ (p : Placed). p.element) ps)
   strings-kept es in_body ws ps ls k h =

@@ -22,7 +22,8 @@ pub any_push : {X : Type 0} (p : X → Bool) (xs : List X) (x : X) → list_any 
 any_push p [] x = elim (p x) as (λ b. (b || false) ≡ b) [ true ↦ refl | false ↦ refl ]
 any_push p (y ∷ xs) x = elim (p y) as (λ b. (b || list_any p (xs ++ x ∷ [])) ≡ (b || list_any p xs || p x)) [ true ↦ refl | false ↦ any_push p xs x ]
 
--- names that are known by the same test as others stay so when one is added to both, to the first only if it is new
+-- two lists that have the same names still do after one more, which the first list gets only if it
+-- is new
 pub has_name-added : (ks ds : List (List ℕ)) (n : List ℕ) → ((q : List ℕ) → has_name q ks ≡ has_name q ds) →
     (q : List ℕ) → has_name q (cond (has_name n ks) ks (ks ++ n ∷ [])) ≡ has_name q (ds ++ n ∷ [])
 has_name-added ks ds n h q = by_test (has_name n ks) refl
@@ -57,7 +58,7 @@ counts-other n refers h = refl
 counts-other n makes h = absurd (h refl)
 
 module _ (text : List ℕ) where
-  -- the names that the first of these declare
+  -- the names that the first i of these elements declare
   abbrev pub declared_by : List WrittenElement → ℕ → List (List ℕ)
   declared_by ws i = names_declared text (elements_of (take i ws))
 
@@ -80,7 +81,7 @@ module _ (text : List ℕ) where
   pub declared_by-all : (ws : List WrittenElement) (i : ℕ) → length ws ≤ i → declared_by ws i ≡ names_declared text (elements_of ws)
   declared_by-all ws i l = ap (λ xs. names_declared text (elements_of xs)) (take_all i ws l)
 
-  -- the next of those that the code keeps, and the one that it is
+  -- the next stored element, and the written element that it is
   pub record NextWritten (entries : List ClassEntry) (w : WrittenElement) (ps : List Placed) (i : ℕ) : Type 0 where
     pub next : Placed
     pub here : drop i ps ≡ next ∷ drop (i + 1) ps
@@ -118,7 +119,7 @@ module _ (text : List ℕ) where
     unfolding scope_elements_from
     scope_elements-end n = refl
 
-    -- the elements that are made, and those that are left
+    -- the elements made so far, and those that the rest will make
     abbrev pub with_left : List ScopeElementKept → List Placed → List ScopeElement
     with_left ls ps = map (scope_element_of text) ls ++ scope_elements_from text in_body declared (length ls) ps
 
@@ -155,7 +156,7 @@ module _ (text : List ℕ) where
           at_drop_all (with_left ls) ps i (omega (arith, written-length entries ws ps h))
           ∙ ap (λ xs. map (scope_element_of text) ls ++ xs) (scope_elements-end (length ls)) ∙ append-nil (map (scope_element_of text) ls)
 
-    -- the strings of the elements that are made, and of those that are left
+    -- the configuration strings of the elements made so far, and of those that the rest will make
     abbrev pub strings_left : List ScopeElementKept → List WrittenElement → List (Option Span)
     strings_left ls ws = strings_of ls ++ strings_made text in_body declared (elements_of ws)
 
@@ -190,7 +191,7 @@ module _ (text : List ℕ) where
     pub strings-all : (ls : List ScopeElementKept) (ws : List WrittenElement) (i : ℕ) → length ws ≤ i → strings_left ls (drop i ws) ≡ strings_of ls
     strings-all ls ws i l = at_drop_all (strings_left ls) ws i l ∙ append-nil (strings_of ls)
 
-    -- the numbers before these, of which so many are known
+    -- the numbers so far, and those of the rest
     abbrev pub numbers_left : List ℕ → ℕ → List WrittenElement → List ℕ
     numbers_left ns n ws = ns ++ numbers_from text in_body declared n (elements_of ws)
 

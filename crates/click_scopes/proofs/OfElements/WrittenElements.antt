@@ -1,4 +1,4 @@
--- The elements of a scope as they are kept are those that its elements as written make.
+-- The stored elements of a scope are those that its written elements make.
 use Rattle.std.proofs.Common.{◌≡◌, ℕ, suc, zero, ◌+◌, List, [], ◌∷◌, ◌++◌, map, take, length, Bool, Option, Some, None, refl, sym, ap, ◌∙◌, arith, add-zero}
 use Rattle.std.specs.List.{slice_get, cons_option}
 use Rattle.std.specs.Option.{option_map}
@@ -17,7 +17,7 @@ use Rattle.click_scopes.proofs.OfElements.StatementElements.{scope_elements-made
 some_same : {X : Type 0} {x y : X} → Some x ≡ Some y → x ≡ y
 some_same h = cc h
 
--- a list's element after others
+-- the item of a list after others
 pub get-behind : {X : Type 0} (xs : List X) (x : X) (ys : List X) → slice_get (xs ++ x ∷ ys) (length xs) ≡ Some x
 get-behind [] x ys = refl
 get-behind (y ∷ xs) x ys = get-behind xs x ys
@@ -31,7 +31,7 @@ mapped-by : {X Y : Type 0} (f : X → Y) (xs : List X) (i : ℕ) (y : Y) → sli
 mapped-by f xs i y h None e = let q : None ≡ Some y = ap (option_map f) (sym e) ∙ sym (slice_get-map f xs i) ∙ h in absurd (cc q)
 mapped-by f xs i y h (Some x) e = (x, e, some_same (ap (option_map f) (sym e) ∙ sym (slice_get-map f xs i) ∙ h))
 
--- what a function gives of what stands there
+-- the item of a mapped list is the image of the item there
 pub mapped-there : {X Y : Type 0} (f : X → Y) (xs : List X) (i : ℕ) (y : Y) → slice_get (map f xs) i ≡ Some y → (x : X) × (slice_get xs i ≡ Some x) × (f x ≡ y)
 mapped-there f xs i y h = mapped-by f xs i y h (slice_get xs i) refl
 
@@ -42,7 +42,7 @@ module _ (text : List ℕ) (in_body : Bool) (declared : List (List ℕ)) where
   abbrev pub made_from : ℕ → List Placed → List ScopeElement
   made_from n ps = scope_elements_from text in_body declared n ps
 
-  -- An element as written makes the one at that place.
+  -- A written element makes the element at index i.
   pub record MadeAt (n : ℕ) (ps : List Placed) (i : ℕ) : Type 0 where
     pub front : List Placed
     pub back : List Placed
@@ -84,12 +84,12 @@ module _ (text : List ℕ) (in_body : Bool) (declared : List (List ℕ)) where
   made-cons n i l p ps f pseudo e h =
       made-beyond n i p ps pseudo e (λ q. cc q) (f n i (ap (λ x. slice_get x i) (sym (scope_elements-other text in_body declared n p ps pseudo e (λ q. cc q))) ∙ h))
 
-  -- each element of a scope is made by one as written
+  -- each element of a scope is made by a written one
   pub made-at : (ps : List Placed) (n i : ℕ) (l : ScopeElement) → slice_get (made_from n ps) i ≡ Some l → MadeAt n ps i
   made-at [] n i l h = let q : None ≡ Some l = ap (λ x. slice_get x i) (sym (scope_elements-end text in_body declared n)) ∙ h in absurd (cc q)
   made-at (p ∷ ps) n i l h = made-cons n i l p ps (λ m j k. made-at ps m j l k) (role text in_body declared p.element) refl h
 
-  -- What an element as written makes, after those before it.
+  -- What a written element makes, after the elements of those before it.
   record Split (n : ℕ) (front : List Placed) (p : Placed) (back : List Placed) : Type 0 where
     behind : List ScopeElement
     is : made_from n (front ++ p ∷ back) ≡ made_from n front ++ scope_element text (n + length (made_from n front)) p ∷ behind
@@ -145,7 +145,7 @@ module _ (text : List ℕ) (in_body : Bool) (declared : List (List ℕ)) where
       ap (λ r. length (cons_option (string_where_made r p.element.text) (strings_made text in_body declared (elements_in ps)))) e ∙ f n
       ∙ ap length (sym (scope_elements-other text in_body declared n p ps pseudo e (λ x. cc x)))
 
-  -- as many strings as elements
+  -- there are as many configuration strings as elements
   count-same : (ps : List Placed) (n : ℕ) → length (strings_made text in_body declared (elements_in ps)) ≡ length (made_from n ps)
   count-same [] n = ap length (sym (scope_elements-end text in_body declared n))
   count-same (p ∷ ps) n = count-by n p ps (role text in_body declared p.element) refl (λ m. count-same ps m)
@@ -158,7 +158,7 @@ module _ (text : List ℕ) (in_body : Bool) (declared : List (List ℕ)) where
       ∙ filter_map-append (string_made text in_body declared) (elements_in front) (elements_in (p ∷ back))
       ∙ ap (λ r. strings_made text in_body declared (elements_in front) ++ cons_option (string_where_made r p.element.text) (strings_made text in_body declared (elements_in back))) e
 
-  -- The element that one as written makes, as it is kept.
+  -- The stored element that a written element makes.
   pub record IsKept (ls : List ScopeElementKept) (front : List Placed) (p : Placed) : Type 0 where
     pub element : ScopeElementKept
     pub there : slice_get ls (length (made_from 0 front)) ≡ Some element

@@ -1,4 +1,4 @@
--- The first wrong name, class or declaration of a configuration.
+-- The first misuse of a name, class or declaration of a configuration.
 use Rattle.std.proofs.Common.{◌≡◌, ◌⊎◌, inl, inr, ◌≤◌, List, [], ◌∷◌, ◌++◌, take, length, true, nat_lt, Option, Some, None, refl, sym, ap, ◌∙◌, subst, arith}
 use Rattle.click_text.specs.declared.syntax.Span.{Span}
 use Rattle.click_text.specs.declared.syntax.Head.TheVariants as head
@@ -28,11 +28,11 @@ use Rattle.click_scopes.proofs.OfFaults.PlaceNameFaults.{least-before, at_most-s
 use Rattle.click_scopes.proofs.OfElements.WrittenElements.{IsKept}
 use Rattle.click_scopes.proofs.OfFaults.ScopeNameFaults.{WrongHere, scope_element-sound, scope_element-found, unknown-here, twice-here, port-here, formal-sound, formal-found, entry-sound, entry-found}
 
--- in the whole text, in a body, or a synonym
+-- a misuse in the whole text or in a body, or a synonym of an unknown class
 abbrev pub AnyWrong : Config → List ClassEntry → List ScopeKept → TokenFault → Type 0
 AnyWrong c entries all w = (IsWrongAt c all (length c.bodies) w ⊎ IsNameFaultWithin c all (length c.bodies) w) ⊎ IsWrongEntry entries (length entries) w
 
--- one that stands no later
+-- a misuse is found that comes no later
 abbrev Found : Config → List ClassEntry → List ScopeKept → TokenFault → Type 0
 Found c entries all w = (x : TokenFault) × AnyWrong c entries all x × AtMost x w
 
@@ -76,7 +76,7 @@ module _ (c : Config) (entries : List ClassEntry) (all : List ScopeKept) (n : Is
         q.2,
       )
 
-  -- each wrong name, class or declaration stands no earlier than one that is found
+  -- for each misuse of a name, class or declaration, one is found that comes no later
   any-found : (k : WrongUse) (t : Span) → IsWrong c k t → fault_number k ≤ 13 → Found c entries all (token_fault k t)
   any-found k t (unknown_name s v a front back p w st e r eh et em) l =
       scope-found s v a st front p back e r (token_fault kind.UnknownName w)

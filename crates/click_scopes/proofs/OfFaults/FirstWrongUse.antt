@@ -1,4 +1,4 @@
--- The first wrong use: of those of names and those of compounds, and that it is one.
+-- The first misuse of all: of a name or of a compound.
 use Rattle.std.proofs.Common.{◌≡◌, ◌⊎◌, inl, inr, ◌≤◌, Option, Some, None, refl, arith}
 use Rattle.click_text.specs.declared.syntax.Span.{Span}
 use Rattle.click_text.specs.declared.syntax.Config.{Config}
@@ -45,7 +45,7 @@ number-once kind.WrongParameters kind.WrongParameters e = refl
 number-once kind.CompoundPort kind.CompoundPort e = refl
 number-once _ _ e = absurd (omega (arith, e))
 
--- the first of wrong uses has one kind and one beginning
+-- the first misuses of a configuration have the same kind and the same start
 pub first-wrong-once : (c : Config) (k j : WrongUse) (s t : Span) → IsFirstWrong c k s → IsFirstWrong c j t → (k ≡ j) × (s.start ≡ t.start)
 first-wrong-once c k j s t h g =
     let a = h.first j t g.wrong in

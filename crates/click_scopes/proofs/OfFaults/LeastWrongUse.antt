@@ -1,4 +1,4 @@
--- The first of wrong uses.
+-- The first of several misuses.
 use Rattle.std.proofs.Common.{◌≡◌, ◌⊎◌, inl, inr, ℕ, ◌+◌, ◌<◌, ◌≤◌, List, [], ◌∷◌, ◌++◌, take, length, get_or, subst, Bool, true, false, cond, nat_eq, nat_lt, Option, Some, None, refl, sym, ap, ◌∙◌, arith}
 use Rattle.std.proofs.lemmas.Bool.Decides.{nat_tests}
 use Rattle.click_scopes.specs.Faults.{fault_number}
@@ -45,7 +45,7 @@ before-at_most x y h = elim (before-numbers x.span.start y.span.start (fault_num
 not_before-at_most : (x y : TokenFault) → comes_before y x ≡ false → AtMost x y
 not_before-at_most x y h = elim (after-numbers y.span.start x.span.start (fault_number y.kind) (fault_number x.kind) h) [ inl l ↦ inl l | inr e ↦ inr (e.0, e.1) ]
 
--- the first of two is the first of all
+-- the first of two first misuses is the first of all
 pub least-first_of : (P Q : TokenFault → Type 0) (a b : Option TokenFault) → IsLeast P a → IsLeast Q b → IsLeast (λ w. P w ⊎ Q w) (first_of a b)
 least-first_of P Q None None h k = λ w c. elim c [ inl p ↦ h w p | inr q ↦ k w q ]
 least-first_of P Q None (Some y) h k = (inr k.0, λ x c. elim c [ inl p ↦ absurd (h x p) | inr q ↦ k.1 x q ])
@@ -56,12 +56,13 @@ least-first_of P Q (Some x) (Some y) h k = by_test (comes_before y x) refl
     by_test true e = (inr k.0, λ z c. elim c [ inl p ↦ at_most-through y x z (before-at_most y x e) (h.1 z p) | inr q ↦ k.1 z q ])
     by_test false e = (inl h.0, λ z c. elim c [ inl p ↦ h.1 z p | inr q ↦ at_most-through x y z (not_before-at_most x y e) (k.1 z q) ])
 
--- a wrong use alone is the first
+-- a single misuse is the first one
 pub least-alone : (o : Option TokenFault) → IsLeast (λ w. o ≡ Some w) o
 least-alone None = λ w e. cc e
 least-alone (Some x) = (refl, λ w e. inr (ap (λ (y : TokenFault). y.span.start) (some_same e), (let p : fault_number x.kind ≡ fault_number w.kind = ap (λ (y : TokenFault). fault_number y.kind) (some_same e) in omega (arith, p))))
 
--- the first of those for which one thing holds is that of those for which another does that holds of the same
+-- the first misuse for which P holds is the first for which Q holds, if both hold of the same
+-- misuses
 pub least-same : (P Q : TokenFault → Type 0) (o : Option TokenFault) → ((w : TokenFault) → P w → Q w) → ((w : TokenFault) → Q w → P w) → IsLeast P o → IsLeast Q o
 least-same P Q None f g h = λ w q. h w (g w q)
 least-same P Q (Some x) f g h = (f x h.0, λ w q. h.1 w (g w q))

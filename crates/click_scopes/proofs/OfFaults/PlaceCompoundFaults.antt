@@ -1,4 +1,4 @@
--- The first of wrong uses of compounds, place by place.
+-- The first misuse of a compound, index by index.
 use Rattle.std.proofs.Common.{◌≡◌, ◌⊎◌, inl, inr, ℕ, ◌+◌, List, length, subst, Option, Some, None, sym, ap, ◌∙◌, arith}
 use Rattle.std.specs.List.{slice_get}
 use Rattle.std.proofs.lemmas.Bool.{cases_order}
@@ -35,7 +35,7 @@ module _ (C : ℕ → TokenFault → Type 0) where
   pub among-all : (i n : ℕ) (o : Option TokenFault) → i ≡ n → IsLeast (Among C i) o → IsLeast (Among C n) o
   among-all i n o e h = subst (λ m. IsLeast (Among C m) o) e h
 
--- the wrong call of an element, as the first of all at its place
+-- the wrong call of an element, as the first misuse at its index
 pub call-here : (bodies : List Body) (ls : List ScopeElementKept) (i : ℕ) (l : ScopeElementKept) (o : Option TokenFault) → slice_get ls i ≡ Some l →
     o ≡ call_fault_at bodies l → IsLeast (IsWrongCall bodies ls i) o
 call-here bodies ls i l o there e =

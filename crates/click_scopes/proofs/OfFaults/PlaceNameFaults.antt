@@ -1,4 +1,4 @@
--- The first wrong names, classes and declarations of the places of the table.
+-- The first misuse of a name, class or declaration at each index of the table.
 use Rattle.std.proofs.Common.{◌≡◌, ◌⊎◌, inl, inr, ℕ, ◌+◌, ◌<◌, List, length, get_or, Bool, nat_lt, Option, Some, None, refl, sym, ap, ◌∙◌, subst, arith}
 use Rattle.std.specs.List.{slice_get}
 use Rattle.std.proofs.lemmas.Bool.{cases_order}
@@ -17,12 +17,13 @@ use Rattle.click_scopes.proofs.OfFaults.LeastWrongUse.{least-first_of, least-alo
 some_same : {X : Type 0} {x y : X} → Some x ≡ Some y → x ≡ y
 some_same h = cc h
 
--- the first of those for which one thing holds is that of others, before each of which stands one of them
+-- the first misuse for which P holds is the first for which Q holds, if each of the latter comes no
+-- earlier than one of the former
 pub least-before : (P Q : TokenFault → Type 0) (o : Option TokenFault) → ((w : TokenFault) → P w → Q w) → ((w : TokenFault) → Q w → (v : TokenFault) × P v × AtMost v w) → IsLeast P o → IsLeast Q o
 least-before P Q None f g h = λ w q. let r = g w q in h r.0 r.1
 least-before P Q (Some x) f g h = (f x h.0, λ w q. let r = g w q in at_most-through x r.0 w (h.1 r.0 r.1) r.2)
 
--- the first of those is no later than one of them
+-- the first misuse comes no later than any other
 pub least-found : (P : TokenFault → Type 0) (o : Option TokenFault) (w : TokenFault) → IsLeast P o → P w → (v : TokenFault) × (o ≡ Some v) × AtMost v w
 least-found P None w h p = absurd (h w p)
 least-found P (Some x) w h p = (x, refl, h.1 w p)
@@ -61,7 +62,7 @@ module _ (entries : List ClassEntry) where
       (least-first_of (IsWrongEntry entries i) (λ w. here ≡ Some w) o here h (least-alone here)))
 
 module _ (c : Config) (all : List ScopeKept) where
-  -- what is wrong at a place, by what the code reads there
+  -- the misuse at an index, for the values that the code reads
   pub place-read : (text : List ℕ) (bodies : List Body) (b : Bool) (items : List ScopeElementKept) (place : ℕ) (o : Option TokenFault) →
       text ≡ c.text → bodies ≡ c.bodies → b ≡ nat_lt place (length c.bodies) → items ≡ elements_by (slice_get all place) →
       IsLeast (IsWrongScopeElement text bodies b items (length items)) o → IsLeast (IsWrongAt c all place) o

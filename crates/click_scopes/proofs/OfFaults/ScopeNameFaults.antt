@@ -1,4 +1,5 @@
--- Wrong names, classes and declarations in a scope are those of its elements and parameters as they are kept.
+-- The misuses of names, classes and declarations in a scope are those of its stored elements and
+-- parameters.
 use Rattle.std.proofs.Common.{◌≡◌, ◌≢◌, ◌⊎◌, inl, inr, ℕ, ◌+◌, ◌≤◌, List, ◌∷◌, ◌++◌, map, take, drop, reverse, length, Bool, true, false, ◌&&◌, Option, Some, None, refl, sym, ap, ◌∙◌, subst, arith}
 use Rattle.std.specs.List.{slice_get}
 use Rattle.std.specs.Option.{option_map}
@@ -54,7 +55,7 @@ token-same c (head.Compound b) = refl
 name_fault : (c : Config) (k : WrongUse) (s : Span) (w : TokenFault) → token_fault k s ≡ w → fault_number k ≤ 13 → IsWrong c k s → IsNameFault c w
 name_fault c k s w e l h = subst (IsNameFault c) e (record { wrong = h; kind = l })
 
--- what is wrong with an element
+-- the misuse of an element
 abbrev pub WrongHere : Config → Bool → Bool → ScopeElementKept → TokenFault → Type 0
 WrongHere c in_body taken l w =
     ((unknown_at l.head l.text l.class ≡ Some w) ⊎ (twice_at taken l.head l.class (first_in c.bodies l.head) ≡ Some w)) ⊎ (port_at c.text in_body l.head ≡ Some w)
@@ -127,7 +128,7 @@ module _ (c : Config) (s : Scope) (v : List Statement) (a : List Scope) (st : St
     twice-sound (head.Compound b) (Some m) w eh em q = twice-named (head.Compound b) w eh q (inr (meant-here m em))
 
     module _ (ls : List ScopeElementKept) (k : IsKept c.text (is_body s) declared_here ls front p) where
-      -- what is known of the element that is kept
+      -- what holds of the stored element
       head-kept : k.element.head ≡ p.element.head
       head-kept = ap (λ (l : ScopeElement). l.head) k.made
 
@@ -172,9 +173,9 @@ module _ (c : Config) (s : Scope) (v : List Statement) (a : List Scope) (st : St
           inr (ap (port_at c.text (is_body s)) (head-kept ∙ eh) ∙ ap (λ x. token_fault_if (x && is_port_name (bytes_at c.text n)) kind.DeclaredTwice n) b
           ∙ ap (λ x. token_fault_if x kind.DeclaredTwice n) q)
 
-  -- the elements as they are kept
+  -- the stored elements
   module _ (ls : List ScopeElementKept) (h : map (scope_element_of c.text) ls ≡ elements_of_scope c s v) (g : strings_of ls ≡ scope_strings c s v) where
-    -- One as written, and the element at that place.
+    -- A written element, and the stored element at its index.
     record Both (i : ℕ) (l : ScopeElementKept) : Type 0 where
       front : List Placed
       back : List Placed
@@ -202,7 +203,7 @@ module _ (c : Config) (s : Scope) (v : List Statement) (a : List Scope) (st : St
           same = some_same (sym k.there ∙ ap (slice_get ls) m.count ∙ e);
         }
 
-    -- what is wrong among the elements as they are kept is wrong
+    -- a misuse among the stored elements is a misuse
     pub scope_element-sound : (w : TokenFault) → IsWrongScopeElement c.text c.bodies (is_body s) ls (length ls) w → IsNameFault c w
     scope_element-sound w q =
         let m = both q.place q.element q.there in let l = m.kept.element in let i = length (before_it m.front) in
@@ -212,7 +213,7 @@ module _ (c : Config) (s : Scope) (v : List Statement) (a : List Scope) (st : St
         (ap (λ n. scope_element_at c.text c.bodies (is_body s) (has_name l.name.items (local_names (take n ls))) l) m.count
         ∙ ap (λ (x : ScopeElementKept). scope_element_at c.text c.bodies (is_body s) (has_name x.name.items (local_names (take q.place ls))) x) m.same ∙ q.is))
 
-    -- what is wrong with one as written stands no earlier than something wrong among those that are kept
+    -- a misuse of a written element comes no earlier than one among the stored elements
     pub scope_element-found : (front : List Placed) (p : Placed) (back : List Placed) → scope_placed c s v ≡ front ++ p ∷ back → role_in c s v p ≡ makes → (w : TokenFault) →
         ((k : IsKept c.text (is_body s) declared_here ls front p) → WrongHere c (is_body s) (has_name k.element.name.items (local_names (take (length (before_it front)) ls))) k.element w) →
         (x : TokenFault) × IsWrongScopeElement c.text c.bodies (is_body s) ls (length ls) x × AtMost x w
@@ -246,7 +247,7 @@ module _ (c : Config) (b : ℕ) (v : List Statement) (a : List Scope) (st : Stan
         ∙ ap (λ x. has_name (bytes_at c.text f) (formals_in c.text x)) (take-append_seam front (f ∷ back)) ∙ t);
   }
 
--- What is known of the word of a synonym that names no class.
+-- What holds if the word of a synonym names no class.
 original-is : (o : Option Span) (m : Option ResolvedClass) (w : TokenFault) → original_at o m ≡ Some w → (x : Span) × (o ≡ Some x) × (m ≡ None) × (token_fault kind.UnknownClass x ≡ w)
 original-is None m w h = absurd (cc h)
 original-is (Some x) None w h = (x, refl, refl, some_same h)

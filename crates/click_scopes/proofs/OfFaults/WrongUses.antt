@@ -1,4 +1,4 @@
--- The wrong uses that the code looks for are those of the configuration.
+-- The misuses that the code looks for are those of the configuration.
 use Rattle.std.proofs.Common.{◌≡◌, ◌≢◌, ◌⊎◌, inl, inr, ℕ, suc, zero, ◌<◌, ◌≤◌, List, [], ◌∷◌, ◌++◌, map, length, take, Bool, true, false, not, nat_eq, nat_lt, Option, Some, None, refl, sym, ap, ◌∙◌, subst, arith, All, Contains}
 use Rattle.std.specs.List.{slice_get}
 use Rattle.std.specs.Option.{option_map}
@@ -61,7 +61,7 @@ not-below a b h = grind (arith, nat_tests)
 below-not : (a b : ℕ) → nat_lt a b ≡ false → b ≤ a
 below-not a b h = grind (arith, nat_tests)
 
--- a wrong use that a test finds
+-- a misuse that a test finds
 wrong-found : (b : Bool) (k : WrongUse) (s : Span) (w : TokenFault) → token_fault_if (not b) k s ≡ Some w → (b ≡ false) × (w ≡ token_fault k s)
 wrong-found true k s w h = absurd (cc h)
 wrong-found false k s w h = (refl, sym (same_Some (token_fault k s) w h))
@@ -79,7 +79,7 @@ call-is bodies (Some b) spans first w h =
     let r = wrong-found (nat_eq (length spans) (length (body_formals (slice_get bodies b)))) kind.WrongParameters first w h in
     record { body = b; compound = refl; other = eq-not (length spans) (length (body_formals (slice_get bodies b))) r.0; is = r.1 }
 
--- a port that a compound lacks
+-- a port that a compound does not have
 record IsLack (count : Ports → ℕ) (ports : List Ports) (o : Option ℕ) (port : ℕ) (first : Span) (w : TokenFault) : Type 0 where
   pub body : ℕ
   pub compound : o ≡ Some body
@@ -183,7 +183,7 @@ module _ (c : Config) (s : Scope) (v : List Statement) (a : List Scope) (st : St
         }
 
   module _ (ports : List Ports) (hp : ArePorts c ports) (ks : List ConnectionKept) (hk : AreWrittenConnections (elements_of_scope c s v) ks (scope_connections c s v)) where
-    -- the class of an element that is joined
+    -- the class of an element at an end of a connection
     joined-means : (i b : ℕ) (e : End) → IsOwner (elements_of_scope c s v) (owner.Element i) e → scope_element_body (slice_get ls i) ≡ Some b → e.meaning ≡ Some (compound b)
     joined-means i b e h k =
         let r = compound-there (slice_get ls i) b k in
@@ -269,7 +269,7 @@ wrong-yes true k s w h = (refl, sym (same_Some (token_fault k s) w h))
 wrong-yes false k s w h = absurd (cc h)
 
 module _ (c : Config) (n : IsNested c) (scopes : List ScopeKept) (ports : List Ports) (hs : AreAllScopes c scopes) (hp : ArePorts c ports) where
-  -- a wrong use in a body, of its ports, or in the whole text
+  -- a misuse in a body, of its ports, or in the whole text
   abbrev pub IsWrongSomewhere : TokenFault → Type 0
   IsWrongSomewhere w =
       Among (IsCompoundFaultOfBody c.bodies scopes ports) (length c.bodies) w ⊎ IsWrongIn c.bodies scopes ports (length c.bodies) w

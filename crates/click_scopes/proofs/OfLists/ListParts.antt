@@ -39,7 +39,7 @@ contains-reverse (y ∷ xs) x h =
       | inr j ↦ elim (contains-cons y [] x j) [ inl e ↦ subst (Contains (y ∷ xs)) e (contains-here y xs) | inr n ↦ absurd (contains-nil x n) ]
     ]
 
--- a part of a list stands between others
+-- an item of a list is between others
 pub contains-split : {X : Type 0} (xs : List X) (x : X) → Contains xs x → (front : List X) × (back : List X) × (xs ≡ front ++ x ∷ back)
 contains-split [] x h = absurd (contains-nil x h)
 contains-split (y ∷ xs) x h =
@@ -61,7 +61,7 @@ at-contains (y ∷ xs) x h =
       | inr i ↦ (let r = at-contains xs x i in (suc r.0, r.1))
     ]
 
--- what stands at a place of a list, and before it
+-- the item at an index of a list, and those around it
 pub record IsAt {X : Type 0} (xs : List X) (i : ℕ) (x : X) : Type 0 where
   pub front : List X
   pub back : List X
@@ -80,7 +80,7 @@ at-place (y ∷ xs) (suc i) x e =
     before-next y xs zs i h zero l = refl
     before-next y xs zs i h (suc k) l = h k (omega (arith, l))
 
--- a part of a list of images is the image of a part
+-- an item of a mapped list is the image of an item
 pub map-there : {X Y : Type 0} (f : X → Y) (xs : List X) (i : ℕ) (y : Y) → slice_get (map f xs) i ≡ Some y → (x : X) × (slice_get xs i ≡ Some x) × (f x ≡ y)
 map-there f [] i y h = absurd (cc h)
 map-there f (x ∷ xs) zero y h = (x, refl, same_Some (f x) y h)

@@ -1,4 +1,4 @@
--- Names, and the places where they stand.
+-- Names and their indices.
 use Rattle.std.proofs.Common.{◌≡◌, suc, ◌+◌, List, [], ◌∷◌, ◌++◌, map, length, Bool, true, false, not, ◌||◌, cond, refl, ap, position}
 use Rattle.std.specs.List.{prefix_len, list_any}
 use Rattle.std.proofs.lemmas.List.{map_push}
@@ -22,7 +22,7 @@ pub any_map : {A B : Type 0} (p : B → Bool) (f : A → B) (xs : List A) → li
 any_map p f [] = refl
 any_map p f (x ∷ xs) = ap (λ b. p (f x) || b) (any_map p f xs)
 
--- a list to which x was added, if no part of it passes the test
+-- a list to which x was added if none of its items passes the test
 pub added_map : {A B : Type 0} (p : B → Bool) (f : A → B) (xs : List A) (x : A) → map f (cond (list_any (λ y. p (f y)) xs) xs (xs ++ x ∷ [])) ≡ cond (list_any p (map f xs)) (map f xs) (map f xs ++ f x ∷ [])
 added_map p f xs x = rw any_map (by_test (list_any (λ y. p (f y)) xs))
   where

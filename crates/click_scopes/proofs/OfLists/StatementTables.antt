@@ -1,4 +1,4 @@
--- What the code keeps of statements, one after another.
+-- What is stored of statements, one after another.
 use Rattle.std.proofs.Common.{◌≡◌, ℕ, suc, zero, ◌+◌, ◌<◌, ◌≤◌, List, [], ◌∷◌, ◌++◌, map, length, get_or, take, drop, reverse, Contains, Option, Some, refl, sym, ap, ◌∙◌, append_assoc, subst, arith}
 use Rattle.std.specs.List.{slice_get}
 use Rattle.std.proofs.lemmas.List.{append-nil, at_drop_all, at_drop_more, take_more, drop_more, reverse-append, take-append-drop, map-append}
@@ -50,7 +50,7 @@ pub more-more : (a b c : List ClassEntry) → IsMore a b → IsMore b c → IsMo
 more-more a b c h k = (h.0 ++ k.0, k.1 ∙ ap (λ x. x ++ k.0) h.1 ∙ append_assoc a h.0 k.0)
 
 module _ (text : List ℕ) where
-  -- what is visible stays so when there are more definitions
+  -- what is visible stays the same when definitions are appended
   pub shows-more : (old more : List ClassEntry) (top : Option ℕ) (vs : List Statement) → Shows text old top vs → Shows text (old ++ more) top vs
   shows-more old more top [] h = h
   shows-more old more top (statement.Chain k ∷ vs) h = shows-more old more top vs h
@@ -157,7 +157,7 @@ module _ (text : List ℕ) where
     nested_bodies-at es scope top visible all before after st bs e (λ c k. i c (Contains-append_right (b ∷ []) bs c k)) h,
   )
 
-  -- The elements and the bodies so far: those of the statements before these, and what is visible after them.
+  -- The elements and the bodies of the first i statements, and what is visible after these.
   pub record Kept (es : List ClassEntry) (scope : ℕ) (top : Option ℕ) (ws : List WrittenElement) (first nested_bodies : List NestedBody) (visible : List Statement) (i : ℕ) (all : List Statement) : Type 0 where
     pub seen : List Placed
     pub shows : Shows text es top (reverse (take i all) ++ visible)

@@ -1,4 +1,4 @@
--- A table that is filled one row after another, each by the row of another table.
+-- A table that is filled row by row, each row from that of another table.
 use Rattle.std.proofs.Common.{◌≡◌, inl, inr, ℕ, ◌+◌, ◌<◌, List, [], ◌∷◌, ◌++◌, length, Some, sym, ap, ◌∙◌, subst, arith}
 use Rattle.std.specs.List.{slice_get}
 use Rattle.std.proofs.lemmas.Bool.{cases_order}
@@ -7,7 +7,7 @@ use Rattle.std.proofs.lemmas.Option.{same_Some}
 use Rattle.click_scopes.proofs.OfLists.StatementTables.{slice_get-more, slice_get-last}
 
 module _ {K X : Type 0} (R : ℕ → K → X → Type 0) where
-  -- the rows up to a place are filled
+  -- the rows before index i are filled
   pub record Filled (ks : List K) (all : List X) (i : ℕ) : Type 0 where
     pub count : length all ≡ i
     pub each : (j : ℕ) (k : K) → j < i → slice_get ks j ≡ Some k → (x : X) × (slice_get all j ≡ Some x) × R j k x

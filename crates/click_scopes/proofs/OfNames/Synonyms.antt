@@ -1,4 +1,4 @@
--- The synonyms among the definitions and the ports of chains, one statement after another.
+-- The synonyms among the definitions, and the ports of chains, one statement after another.
 use Rattle.std.proofs.Common.{◌≡◌, ◌⊎◌, inl, inr, ℕ, suc, zero, ◌+◌, ◌<◌, ◌≤◌, List, [], ◌∷◌, ◌++◌, map, length, get_or, take, drop, reverse, Option, Some, None, refl, sym, ap, ◌∙◌, append_assoc, subst, arith}
 use Rattle.std.specs.List.{slice_get, cons_option}
 use Rattle.std.proofs.lemmas.Bool.{cases_order}
@@ -47,7 +47,7 @@ ports-next ws vs top all i d st l is w h =
 pub ports-all : (ws : List WrittenElement) (all : List Statement) (i : ℕ) → length all ≤ i → written_ports ws ++ ports_in (drop i all) ≡ ports_in all → written_ports ws ≡ ports_in all
 ports-all ws all i l h = sym (append-nil (written_ports ws)) ∙ ap (λ x. written_ports ws ++ x) (sym (at_drop_all ports_in all i l)) ∙ h
 
--- a list is split at one length in one way
+-- a list is split at a given length in one way only
 split-same : {X : Type 0} (xs us ys vs : List X) (a b : X) → xs ++ a ∷ ys ≡ us ++ b ∷ vs → length xs ≡ length us → (xs ≡ us) × (a ≡ b)
 split-same [] [] ys vs a b e l = (refl, cc e)
 split-same [] (u ∷ us) ys vs a b e l = absurd (omega (arith, l))
@@ -58,7 +58,7 @@ split-same (x ∷ xs) (u ∷ us) ys vs a b e l =
     let r = split-same xs us ys vs a b t (omega (arith, l)) in
     (ap (λ y. y ∷ xs) h ∙ ap (λ y. u ∷ y) r.0, r.1)
 
--- what stands in a list with one more, or none
+-- an item of a list to which an item, or none, was appended
 added-cases : (es : List ClassEntry) (o : Option ClassEntry) (j : ℕ) (e : ClassEntry) → slice_get (es ++ cons_option o []) j ≡ Some e → (slice_get es j ≡ Some e) ⊎ (o ≡ Some e)
 added-cases [] None j e h = absurd (cc h)
 added-cases [] (Some x) zero e h = inr h
@@ -79,7 +79,7 @@ synonym-grown text es new w m g h = record {
 }
 
 module _ (text : List ℕ) (vs : List Statement) (top : Option ℕ) where
-  -- a definition with an original is a synonym
+  -- a definition with an original word is a synonym
   entry-synonym : (st : Statement) (e : ClassEntry) (w : Span) → IsEntry text vs top st (Some e) → e.original ≡ Some w →
       (n : Span) × (st ≡ statement.Synonym n w) × (meaning_by e.class ≡ meaning text vs (bytes_at text w))
   entry-synonym (statement.Chain k) e w d o = absurd d
@@ -95,7 +95,7 @@ module _ (text : List ℕ) (vs : List Statement) (top : Option ℕ) where
   synonym-entry n w None d = absurd d
   synonym-entry n w (Some e) d = (e, refl, d.3, d.1)
 
--- The synonyms among the first of these statements are among the definitions, and no others are added.
+-- The synonyms among the first i statements are among the definitions, and no others were appended.
 pub record Renamed (text : List ℕ) (visible : List Statement) (old new : List ClassEntry) (i : ℕ) (all : List Statement) : Type 0 where
   pub sound : (j : ℕ) (e : ClassEntry) (w : Span) → slice_get new j ≡ Some e → e.original ≡ Some w →
       (slice_get old j ≡ Some e) ⊎ IsSynonymAmong text visible all w (meaning_by e.class)

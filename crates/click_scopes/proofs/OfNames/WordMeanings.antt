@@ -1,4 +1,4 @@
--- The meaning of a word, found by going from one definition to the one before it.
+-- The meaning of a word, found by going back from one definition to the one before it.
 use Rattle.std.proofs.Common.{◌≡◌, ℕ, ◌<◌, List, [], ◌∷◌, length, Bool, true, false, cond, Option, Some, None, refl, sym, ap, ◌∙◌, nat_lt, subst}
 use Rattle.std.specs.List.{slice_get}
 use Rattle.std.specs.Str.{bytes_eq}
@@ -64,7 +64,7 @@ module _ (text : List ℕ) where
   meaning-synonym n d older w = refl
 
   module _ (entries : List ClassEntry) where
-    -- after no definition a word means what it means before the text
+    -- if no definition is visible, a word means what it means before the text
     pub found-nothing : (vs : List Statement) (w : List ℕ) → Shows text entries None vs → meaning text vs w ≡ primitive_of w
     found-nothing [] w h = meaning-nil w
     found-nothing (statement.Chain k ∷ vs) w h = meaning-chain k vs w ∙ found-nothing vs w h
@@ -73,7 +73,7 @@ module _ (text : List ℕ) where
     found-nothing (statement.Synonym n d ∷ vs) w h = absurd (cc h.is)
     found-nothing (statement.Requirement t ∷ vs) w h = meaning-requirement t vs w ∙ found-nothing vs w h
 
-    -- what stands at a place, and what is visible before it
+    -- the definition at index i, and what is visible before it
     pub record Found (i : ℕ) (vs : List Statement) (w : List ℕ) : Type 0 where
       pub entry : ClassEntry
       pub there : slice_get entries i ≡ Some entry
@@ -110,12 +110,12 @@ module _ (text : List ℕ) where
     found i (statement.Synonym n d ∷ vs) w h = found-shown i n _ _ vs w h (meaning-synonym n d vs w)
     found i (statement.Requirement t ∷ vs) w h = same-found i _ vs w (meaning-requirement t vs w) (found i vs w h)
 
-    -- what is visible stands in the list
+    -- the index of a visible definition is an index of the list
     pub shown-below : (top : Option ℕ) (vs : List Statement) → Shows text entries top vs → IsBelow top (length entries)
     shown-below None vs h = tt
     shown-below (Some i) vs h = let f = found i vs [] h in slice_get_within entries i f.entry f.there
 
-    -- one definition further
+    -- one definition further back
     pub found-older : (at : Option ℕ) (limit : ℕ) (i : ℕ) (e : ClassEntry) (vs : List Statement) (w : List ℕ) → Some (i, e) ≡ entry_from entries at limit →
         Shows text entries at vs →
         (before : List Statement) × Shows text entries e.older before × IsBelow e.older i

@@ -1,4 +1,4 @@
--- The scopes of a configuration, as the code keeps them.
+-- The stored scopes of a configuration.
 use Rattle.std.specs.Prelude.{◌≡◌, List, map, slice_get, All, Bool, Some}
 use Rattle.click_text.specs.declared.syntax.Statement.{Statement}
 use Rattle.click_text.specs.declared.syntax.Config.{Config}
@@ -14,7 +14,7 @@ use Rattle.click_scopes.specs.declared.classes.ClassEntry.{ClassEntry}
 use Rattle.click_scopes.specs.declared.written_scopes.WrittenScope.{WrittenScope}
 use Rattle.click_scopes.specs.declared.scopes.Scope.{Scope as ScopeKept}
 
--- the scope that is written so
+-- k is the stored form of the written scope w
 pub record IsScopeOf (c : Config) (entries : List ClassEntry) (in_body : Bool) (w : WrittenScope) (k : ScopeKept) : Type 0 where
   pub elements : AreScopeElementsOf c.text entries in_body w.written.items k.elements.items
   pub strings : AreStringsOf c.text in_body w.written.items k.elements.items
@@ -22,7 +22,8 @@ pub record IsScopeOf (c : Config) (entries : List ClassEntry) (in_body : Bool) (
   pub connections : AreWrittenConnectionsOf c in_body w.written.items k.connections
   pub parent : k.parent ≡ w.outer
 
--- A scope as the code keeps it: its elements with their strings and arguments, its connections, and the scope around it.
+-- k is the stored form of a scope: its elements with their strings and arguments, its connections,
+-- and the index of the scope around it.
 pub record IsScope (c : Config) (s : Scope) (visible : List Statement) (enclosing : List Scope) (k : ScopeKept) : Type 0 where
   pub elements : map (scope_element_of c.text) k.elements.items ≡ elements_of_scope c s visible
   pub strings : strings_of k.elements.items ≡ scope_strings c s visible
@@ -30,7 +31,7 @@ pub record IsScope (c : Config) (s : Scope) (visible : List Statement) (enclosin
   pub connections : AreWrittenConnections (elements_of_scope c s visible) k.connections (scope_connections c s visible)
   pub parent : k.parent ≡ outer_of c enclosing
 
--- each scope, by its place in the table
+-- each scope is stored at its index in the table
 abbrev pub AreAllScopes : Config → List ScopeKept → Type 0
 AreAllScopes c all =
     (s : Scope) (visible : List Statement) (enclosing : List Scope) → Stands c s visible enclosing →

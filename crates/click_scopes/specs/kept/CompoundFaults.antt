@@ -1,4 +1,4 @@
--- Wrong uses of compounds, as the code looks for them.
+-- Misuses of compounds, in the form in which the code looks for them.
 use Rattle.std.specs.Prelude.{◌≡◌, ◌⊎◌, ℕ, ◌<◌, List, [], ◌∷◌, length, slice_get, slice_index_or, Bool, false, not, Contains, nat_eq, nat_lt, Option, Some, None, ◌↔◌, IsTrue}
 use Rattle.std.specs.List.{list_any}
 use Rattle.click_text.specs.declared.syntax.Span.{Span}
@@ -17,13 +17,13 @@ use Rattle.click_scopes.specs.declared.scopes.Scope.{Scope as ScopeKept}
 use Rattle.click_scopes.specs.declared.ports.Ports.{Ports}
 use Rattle.click_scopes.specs.declared.first_fault.TokenFault.{TokenFault}
 
--- One of the first of these places has that wrong use.
+-- One of the indices below `end` has this misuse.
 pub record Among (C : ℕ → TokenFault → Type 0) (end : ℕ) (w : TokenFault) : Type 0 where
   pub place : ℕ
   pub within : place < end
   pub is : C place w
 
--- the inputs of a body that its connections name, and the outputs
+-- the input ports, and the output ports, of a body that its connections use
 abbrev pub from_input : Owner → ℕ → List ℕ → List ℕ
 from_input owner.Input p ps = p ∷ ps
 from_input owner.Output p ps = ps
@@ -42,7 +42,7 @@ abbrev pub outputs_kept : List ConnectionKept → List ℕ
 outputs_kept [] = []
 outputs_kept (k ∷ ks) = to_output k.to.owner k.in_port (outputs_kept ks)
 
--- a port of a body below its highest one is not in use
+-- an unused port of a body below its highest one
 pub record HasGap (ports : List ℕ) : Type 0 where
   pub port : ℕ
   pub below : port < port_count ports
@@ -51,7 +51,8 @@ pub record HasGap (ports : List ℕ) : Type 0 where
 abbrev pub has_port : ℕ → List ℕ → Bool
 has_port p ports = list_any (nat_eq p) ports
 
--- these are the ports in use: their number by the highest, and a flag for each
+-- `count` is the number of ports up to the highest one in use, and `flags` has a flag for each that
+-- is in use
 pub record IsUsed (ports : List ℕ) (count : ℕ) (flags : List Bool) : Type 0 where
   pub size : length flags ≡ 256
   pub counts : count ≡ port_count ports
@@ -66,11 +67,11 @@ abbrev pub ports_or : Option Ports → Ports
 ports_or None = record { inputs = 0; outputs = 0; gap = false }
 ports_or (Some p) = p
 
--- the ports of each body, and none where there is no body
+-- the ports of each body, and none for an index without a body
 pub record ArePorts (c : Config) (ports : List Ports) : Type 0 where
   pub each : (b : ℕ) → IsPorts (inputs_of c b) (outputs_of c b) (ports_or (slice_get ports b))
 
--- a compound's element with more or fewer arguments than it has parameters
+-- an element of a compound with more or fewer arguments than the compound has parameters
 abbrev pub call_fault_of : List Body → Option ℕ → List Span → Span → Option TokenFault
 call_fault_of bodies None spans first = None
 call_fault_of bodies (Some b) spans first = token_fault_if (not (nat_eq (length spans) (length (body_formals (slice_get bodies b))))) kind.WrongParameters first
@@ -78,7 +79,7 @@ call_fault_of bodies (Some b) spans first = token_fault_if (not (nat_eq (length 
 abbrev pub call_fault_at : List Body → ScopeElementKept → Option TokenFault
 call_fault_at bodies l = call_fault_of bodies (class_body l.class) l.arguments (first_in bodies l.head)
 
--- the element at that place among these has a wrong number of arguments
+-- the element at this index has a wrong number of arguments
 pub record IsWrongCall (bodies : List Body) (ls : List ScopeElementKept) (place : ℕ) (w : TokenFault) : Type 0 where
   pub element : ScopeElementKept
   pub there : slice_get ls place ≡ Some element
@@ -92,7 +93,7 @@ abbrev pub inputs_by : List Ports → Option ℕ → Option ℕ
 inputs_by ports None = None
 inputs_by ports (Some b) = Some ((ports_or (slice_get ports b)).inputs)
 
--- a port that there is not, where it is known how many there are
+-- a port that does not exist, if the number of ports is known
 abbrev pub lacking : Option ℕ → ℕ → Span → Option TokenFault
 lacking None port first = None
 lacking (Some n) port first = token_fault_if (not (nat_lt port n)) kind.CompoundPort first
@@ -107,13 +108,13 @@ target_by ls ports owner.Input port first = Some (token_fault kind.CompoundPort 
 target_by ls ports owner.Output port first = None
 target_by ls ports (owner.Element i) port first = lacking (inputs_by ports (scope_element_body (slice_get ls i))) port first
 
--- an end of the connection at that place is wrong
+-- an end of the connection at this index is misused
 pub record IsWrongWrittenConnection (ls : List ScopeElementKept) (ports : List Ports) (ks : List ConnectionKept) (place : ℕ) (w : TokenFault) : Type 0 where
   pub written_connection : ConnectionKept
   pub there : slice_get ks place ≡ Some written_connection
   pub is : (source_by ls ports written_connection.from.owner written_connection.out_port written_connection.from.first ≡ Some w) ⊎ (target_by ls ports written_connection.to.owner written_connection.in_port written_connection.to.first ≡ Some w)
 
--- a wrong use in the scope at that place
+-- a misuse in the scope at this index
 abbrev pub IsWrongIn : List Body → List ScopeKept → List Ports → ℕ → TokenFault → Type 0
 IsWrongIn bodies scopes ports place w =
     let ls = elements_by (slice_get scopes place) in
@@ -123,6 +124,6 @@ IsWrongIn bodies scopes ports place w =
 abbrev pub gap_at : List Body → List Ports → ℕ → Option TokenFault
 gap_at bodies ports b = token_fault_if ((ports_or (slice_get ports b)).gap) kind.CompoundPort (brace_by (slice_get bodies b))
 
--- a wrong use in the body at that place, or of its ports
+-- a misuse in the body at this index, or of its ports
 abbrev pub IsCompoundFaultOfBody : List Body → List ScopeKept → List Ports → ℕ → TokenFault → Type 0
 IsCompoundFaultOfBody bodies scopes ports place w = IsWrongIn bodies scopes ports place w ⊎ (gap_at bodies ports place ≡ Some w)

@@ -1,4 +1,4 @@
--- Wrong uses as the code keeps them, and the first of them.
+-- Stored misuses, and the first of them.
 use Rattle.std.specs.Prelude.{◌≡◌, ◌⊎◌, ℕ, ◌+◌, ◌<◌, ◌≤◌, List, map, take, slice_get, Bool, ◌&&◌, nat_eq, nat_lt, Option, Some, None, if◌then◌else◌}
 use Rattle.click_text.specs.declared.syntax.Span.{Span}
 use Rattle.click_text.specs.declared.syntax.ClassReference.TheVariants as class
@@ -29,26 +29,26 @@ first_of None b = b
 first_of (Some x) None = Some x
 first_of (Some x) (Some y) = if comes_before y x then Some y else Some x
 
--- one stands no later than another: by its place, then by its number
+-- a comes no later than b: by its offset, then by its number
 abbrev pub AtMost : TokenFault → TokenFault → Type 0
 AtMost a b = (a.span.start < b.span.start) ⊎ ((a.span.start ≡ b.span.start) × (fault_number a.kind ≤ fault_number b.kind))
 
--- that is the first of those for which P holds
+-- the first of the misuses for which P holds, or none
 abbrev pub IsLeast : (TokenFault → Type 0) → Option TokenFault → Type 0
 IsLeast P None = (w : TokenFault) → P w → ⊥
 IsLeast P (Some w) = P w × ((x : TokenFault) → P x → AtMost w x)
 
--- a wrong use of a name: unknown, of an unknown class, or declared twice
+-- a misuse of a name: unknown, of an unknown class, or declared twice
 pub record IsNameFault (c : Config) (w : TokenFault) : Type 0 where
   pub wrong : IsWrong c w.kind w.span
   pub kind : fault_number w.kind ≤ 13
 
--- a wrong use of a compound: of its parameters, or of its ports
+-- a misuse of a compound: of its parameters, or of its ports
 pub record IsCompoundFault (c : Config) (w : TokenFault) : Type 0 where
   pub wrong : IsWrong c w.kind w.span
   pub kind : 14 ≤ fault_number w.kind
 
--- an element's word that names no class
+-- the word of an element that names no class
 abbrev pub unknown_word : Head → Option Span → Option TokenFault
 unknown_word (head.Word s) None = Some (token_fault kind.UnknownName s)
 unknown_word (head.Word s) (Some t) = Some (token_fault kind.UnknownClass s)
@@ -66,7 +66,7 @@ port_at text in_body (head.Word s) = None
 port_at text in_body (head.Declared n c) = token_fault_if (in_body && is_port_name (bytes_at text n)) kind.DeclaredTwice n
 port_at text in_body (head.Compound b) = None
 
--- an element whose name an earlier one has
+-- an element with the name of an earlier one
 abbrev pub twice_by : Bool → Option ResolvedClass → Span → Option TokenFault
 twice_by taken None s = None
 twice_by taken (Some c) s = token_fault_if taken kind.DeclaredTwice s
@@ -82,11 +82,12 @@ first_in bodies (head.Word s) = s
 first_in bodies (head.Declared n d) = n
 first_in bodies (head.Compound b) = brace_by (slice_get bodies b)
 
--- a body begins before the last place that there is
+-- each of these bodies begins at an offset below 2^64 - 1
 abbrev pub AreShort : List Body → Type 0
 AreShort bodies = (b : ℕ) (x : Body) → slice_get bodies b ≡ Some x → x.span.start + 1 < 18446744073709551616
 
--- what is wrong with the name, the class or the declaration of an element, whose name may be taken
+-- the misuse of an element: of its name, its class or its declaration; `taken` states whether an
+-- earlier element has its name
 abbrev pub scope_element_at : List ℕ → List Body → Bool → Bool → ScopeElementKept → Option TokenFault
 scope_element_at text bodies in_body taken l =
     first_of (first_of (unknown_at l.head l.text l.class) (twice_at taken l.head l.class (first_in bodies l.head))) (port_at text in_body l.head)
@@ -94,7 +95,8 @@ scope_element_at text bodies in_body taken l =
 abbrev pub local_names : List ScopeElementKept → List (List ℕ)
 local_names ls = map (λ (l : ScopeElementKept). l.name.items) ls
 
--- One of the first of these elements has a wrong name, class or declaration; of one element the first counts.
+-- One of the elements with an index below `end` has this misuse of its name, class or declaration;
+-- of two in one element, the first counts.
 pub record IsWrongScopeElement (text : List ℕ) (bodies : List Body) (in_body : Bool) (ls : List ScopeElementKept) (end : ℕ) (w : TokenFault) : Type 0 where
   pub place : ℕ
   pub element : ScopeElementKept
@@ -105,7 +107,7 @@ pub record IsWrongScopeElement (text : List ℕ) (bodies : List Body) (in_body :
 abbrev pub formals_in : List ℕ → List Span → List (List ℕ)
 formals_in text fs = map (bytes_at text) fs
 
--- One of the first of these parameters has the name of an earlier one.
+-- One of the parameters with an index below `end` has the name of an earlier one.
 pub record IsWrongFormal (text : List ℕ) (fs : List Span) (end : ℕ) (w : TokenFault) : Type 0 where
   pub place : ℕ
   pub formal : Span

@@ -1,4 +1,4 @@
--- What the code finds in the scopes, at a scope or at an element of one.
+-- What the code finds at a scope, or at an element of a scope.
 use Rattle.std.specs.Prelude.{ℕ, List, [], slice_get, Option, Some, None}
 use Rattle.click_base.specs.declared.class.Class.{Class}
 use Rattle.click_text.specs.declared.syntax.Span.{Span}
@@ -10,12 +10,12 @@ use Rattle.click_scopes.specs.declared.scopes.Scope.{Scope as ScopeKept}
 use Rattle.click_scopes.specs.declared.written_connections.WrittenConnection.{WrittenConnection}
 use Rattle.click_scopes.specs.declared.scope_elements.ScopeElement.{ScopeElement as ScopeElementKept}
 
--- the place of the scope that a scope stands in
+-- the index of the scope around a scope
 abbrev pub parent_by : Option ScopeKept → ℕ
 parent_by None = 0
 parent_by (Some k) = k.parent
 
--- its elements and its connections
+-- the elements and the connections of a scope
 abbrev pub elements_by : Option ScopeKept → List ScopeElementKept
 elements_by None = []
 elements_by (Some k) = k.elements.items
@@ -24,7 +24,7 @@ abbrev pub connections_by : Option ScopeKept → List WrittenConnection
 connections_by None = []
 connections_by (Some k) = k.connections
 
--- the body that a class stands for
+-- the body that a class means
 abbrev pub class_body : Option ResolvedClass → Option ℕ
 class_body None = None
 class_body (Some (class.Primitive s)) = None
@@ -65,7 +65,7 @@ abbrev pub scope_name : ℕ → Option ScopeKept → List ℕ
 scope_name i None = []
 scope_name i (Some k) = local_name (slice_get k.elements.items i)
 
--- what an element begins with
+-- the head of an element
 abbrev pub scope_element_head : Option ScopeElementKept → Option Head
 scope_element_head None = None
 scope_element_head (Some l) = Some l.head
@@ -74,7 +74,7 @@ abbrev pub scope_head : ℕ → Option ScopeKept → Option Head
 scope_head i None = None
 scope_head i (Some k) = scope_element_head (slice_get k.elements.items i)
 
--- where the arguments of an element stand: nowhere, where there is none
+-- the spans of an element's arguments; none if there is no such element
 abbrev pub spans_by : Option ScopeElementKept → List Span
 spans_by None = []
 spans_by (Some l) = l.arguments
@@ -83,7 +83,7 @@ abbrev pub spans_found : Option ScopeKept → ℕ → List Span
 spans_found None element = []
 spans_found (Some k) element = spans_by (slice_get k.elements.items element)
 
--- the string of an element
+-- the configuration string of an element
 abbrev pub string_kept : List ℕ → Option ScopeElementKept → List ℕ
 string_kept text None = []
 string_kept text (Some l) = string_or_empty text l.text

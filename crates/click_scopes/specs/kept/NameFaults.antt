@@ -1,4 +1,4 @@
--- Wrong names, classes and declarations in the places of the table, and the first of them.
+-- Misuses of names, classes and declarations at the indices of the table, and the first of them.
 use Rattle.std.specs.Prelude.{◌≡◌, ◌⊎◌, ℕ, ◌<◌, List, length, slice_get, nat_lt, Option, Some, None}
 use Rattle.click_text.specs.declared.syntax.Span.{Span}
 use Rattle.click_text.specs.declared.syntax.Config.{Config}
@@ -11,17 +11,17 @@ use Rattle.click_scopes.specs.declared.classes.ClassEntry.{ClassEntry}
 use Rattle.click_scopes.specs.declared.fault.WrongUse.TheVariants as kind
 use Rattle.click_scopes.specs.declared.first_fault.TokenFault.{TokenFault}
 
--- An element of the scope at that place has a wrong name, class or declaration.
+-- An element of the scope at this index misuses a name, class or declaration.
 abbrev pub IsWrongAt : Config → List ScopeKept → ℕ → TokenFault → Type 0
 IsWrongAt c all place w =
     let ls = elements_by (slice_get all place) in
     IsWrongScopeElement c.text c.bodies (nat_lt place (length c.bodies)) ls (length ls) w
 
--- An element of the body at that place is wrong, or one of its parameters.
+-- An element or a parameter of the body with index b is misused.
 abbrev pub IsWrongWithin : Config → List ScopeKept → ℕ → TokenFault → Type 0
 IsWrongWithin c all b w = IsWrongAt c all b w ⊎ IsWrongFormal c.text (formals_of c (inside b)) (length (formals_of c (inside b))) w
 
--- Something is wrong in one of the first of the bodies.
+-- One of the bodies with an index below `end` has this misuse.
 pub record IsNameFaultWithin (c : Config) (all : List ScopeKept) (end : ℕ) (w : TokenFault) : Type 0 where
   pub place : ℕ
   pub within : place < end
@@ -33,7 +33,7 @@ original_at None m = None
 original_at (Some s) None = Some (token_fault kind.UnknownClass s)
 original_at (Some s) (Some m) = None
 
--- One of the first of these definitions is a synonym of an unknown class.
+-- One of the definitions with an index below `end` is a synonym of an unknown class.
 pub record IsWrongEntry (entries : List ClassEntry) (end : ℕ) (w : TokenFault) : Type 0 where
   pub place : ℕ
   pub entry : ClassEntry

@@ -1,4 +1,4 @@
--- The elements of each scope, as the code keeps them.
+-- The stored elements of each scope.
 use Rattle.std.specs.Prelude.{◌≡◌, ℕ, List, map, filter_map, Bool, Option, Some, None}
 use Rattle.click_text.specs.declared.syntax.Span.{Span}
 use Rattle.click_text.specs.declared.syntax.Element.{Element}
@@ -12,12 +12,12 @@ use Rattle.click_scopes.specs.declared.classes.ClassEntry.{ClassEntry}
 use Rattle.click_scopes.specs.declared.written_scopes.WrittenElement.{WrittenElement}
 use Rattle.click_scopes.specs.declared.scope_elements.ScopeElement.{ScopeElement as ScopeElementKept}
 
--- the elements of a scope that is written so
+-- the stored elements of a scope with these written elements
 abbrev pub AreScopeElementsOf : List ℕ → List ClassEntry → Bool → List WrittenElement → List ScopeElementKept → Type 0
 AreScopeElementsOf text entries in_body ws ls =
     (ps : List Placed) → AreWritten text entries ws ps → map (scope_element_of text) ls ≡ scope_elements_from text in_body (declared_names text ps) 0 ps
 
--- the configuration string of an element that makes one: None where none is written
+-- the configuration string of a written element that makes one; the inner None is no string
 abbrev pub string_where_made : Role → Option Span → Option (Option Span)
 string_where_made makes t = Some t
 string_where_made refers t = None
@@ -26,14 +26,14 @@ string_where_made pseudo t = None
 abbrev pub string_made : List ℕ → Bool → List (List ℕ) → Element → Option (Option Span)
 string_made text in_body declared e = string_where_made (role text in_body declared e) e.text
 
--- those of the elements that these make
+-- the configuration strings of the elements that these written elements make
 abbrev pub strings_made : List ℕ → Bool → List (List ℕ) → List Element → List (Option Span)
 strings_made text in_body declared es = filter_map (string_made text in_body declared) es
 
 abbrev pub strings_of : List ScopeElementKept → List (Option Span)
 strings_of ls = map (λ (l : ScopeElementKept). l.text) ls
 
--- the strings of the elements of a scope that is written so
+-- the configuration strings of a scope with these written elements
 abbrev pub AreStringsOf : List ℕ → Bool → List WrittenElement → List ScopeElementKept → Type 0
 AreStringsOf text in_body ws ls = strings_of ls ≡ strings_made text in_body (names_declared text (elements_of ws)) (elements_of ws)
 

@@ -1,4 +1,4 @@
--- The scopes of a configuration as they are written, in a table.
+-- The written scopes of a configuration, in a table.
 use Rattle.std.specs.Prelude.{◌≡◌, ℕ, List, [], ◌∷◌, ◌++◌, reverse, length, map, flat_map, slice_get, Option, Some, None}
 use Rattle.click_text.specs.declared.syntax.Span.{Span}
 use Rattle.click_text.specs.declared.syntax.Link.{Link}
@@ -15,7 +15,8 @@ use Rattle.click_scopes.specs.kept.Tables.{AreWritten, meaning_by}
 use Rattle.click_scopes.specs.declared.classes.ClassEntry.{ClassEntry}
 use Rattle.click_scopes.specs.declared.written_scopes.WrittenScope.{WrittenScope}
 
--- the place of a scope in the table: that of its body, or the one after all bodies
+-- the index of a scope in the table: that of its body, or the index after all bodies for the whole
+-- text
 abbrev pub table_place : Config → Scope → ℕ
 table_place c whole = length c.bodies
 table_place c (inside b) = b
@@ -24,7 +25,8 @@ abbrev pub outer_of : Config → List Scope → ℕ
 outer_of c [] = length c.bodies
 outer_of c (s ∷ enclosing) = table_place c s
 
--- the ports that join an element to the one before it in its chain: none for the first, and none where no chain is
+-- the ports that connect an element to the one before it in its chain; None for the first element,
+-- and outside chains
 abbrev pub ports_of : Statement → List (Option (ℕ × ℕ))
 ports_of (statement.Chain k) = None ∷ map (λ (l : Link). Some (port_number l.from, port_number l.to)) k.links
 ports_of (statement.Declaration d) = map (λ (n : Span). None) d.names
@@ -35,19 +37,19 @@ ports_of (statement.Requirement t) = []
 abbrev pub ports_in : List Statement → List (Option (ℕ × ℕ))
 ports_in ss = flat_map ports_of ss
 
--- A scope as it is written.
+-- k is the stored form of a written scope.
 pub record IsWrittenScope (c : Config) (entries : List ClassEntry) (s : Scope) (visible : List Statement) (enclosing : List Scope) (k : WrittenScope) : Type 0 where
   pub written : AreWritten c.text entries k.written.items (placed visible (statements_of c s))
   pub ports : map (λ (w : WrittenElement). w.ports) k.written.items ≡ ports_in (statements_of c s)
   pub outer : k.outer ≡ outer_of c enclosing
 
--- each scope is in the table
+-- each written scope is stored at its index in the table
 abbrev pub AreWrittenScopes : Config → List ClassEntry → List WrittenScope → Type 0
 AreWrittenScopes c entries ks =
     (s : Scope) (visible : List Statement) (enclosing : List Scope) → Stands c s visible enclosing →
     (k : WrittenScope) × (slice_get ks (table_place c s) ≡ Some k) × IsWrittenScope c entries s visible enclosing k
 
--- A synonym of a scope, and what its class means.
+-- A synonym in a scope, and the meaning of its class.
 pub record IsSynonym (c : Config) (original : Span) (m : Option Meaning) : Type 0 where
   pub scope : Scope
   pub visible : List Statement
@@ -59,7 +61,7 @@ pub record IsSynonym (c : Config) (original : Span) (m : Option Meaning) : Type 
   pub splits : statements_of c scope ≡ before ++ statement.Synonym name original ∷ after
   pub meaning : m ≡ meaning c.text (reverse before ++ visible) (bytes_at c.text original)
 
--- The synonyms among the definitions are those of the configuration's scopes.
+-- The synonyms among the definitions are exactly those in the scopes of the configuration.
 pub record AreSynonyms (c : Config) (entries : List ClassEntry) : Type 0 where
   pub sound : (i : ℕ) (e : ClassEntry) (w : Span) → slice_get entries i ≡ Some e → e.original ≡ Some w → IsSynonym c w (meaning_by e.class)
   pub complete : (s : Scope) (visible : List Statement) (enclosing : List Scope) (before after : List Statement) (n w : Span) → Stands c s visible enclosing →

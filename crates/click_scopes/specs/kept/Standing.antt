@@ -1,4 +1,4 @@
--- What the code keeps of the statements of a scope.
+-- What the code stores of the statements of a scope.
 use Rattle.std.specs.Prelude.{◌≡◌, ◌⊎◌, ℕ, List, [], ◌∷◌, ◌++◌, reverse, map, slice_get, Contains, Option, Some, None}
 use Rattle.std.specs.List.{cons_option}
 use Rattle.click_text.specs.declared.syntax.Span.{Span}
@@ -28,7 +28,7 @@ kept_link top l = kept_element l.element top (Some (port_number l.from, port_num
 abbrev pub kept_name : Declaration → Option ℕ → Span → WrittenElement
 kept_name d top n = kept_element (element (head.Declared n d.class) d.text) top None
 
--- the elements of a statement
+-- the stored elements of a statement
 abbrev pub kept_elements : Option ℕ → Statement → List WrittenElement
 kept_elements top (statement.Chain k) = kept_element k.first top None ∷ map (λ l. kept_link top l) k.links
 kept_elements top (statement.Declaration d) = map (λ n. kept_name d top n) d.names
@@ -39,12 +39,12 @@ kept_elements top (statement.Requirement t) = []
 abbrev pub nested_body : ℕ → Option ℕ → ℕ → NestedBody
 nested_body outer top b = record { body = b; outer = outer; top = top }
 
--- each part of a list is so
+-- P holds of each item of the list
 abbrev pub Each : {X : Type 0} → (X → Type 0) → List X → Type 0
 Each P [] = Unit {0}
 Each P (x ∷ xs) = P x × Each P xs
 
--- A body that stands in one of these statements, and what is visible before that.
+-- A body in one of these statements, and what is visible before it.
 pub record IsNestedBody (text : List ℕ) (entries : List ClassEntry) (scope : ℕ) (visible statements : List Statement) (r : NestedBody) : Type 0 where
   pub before : List Statement
   pub after : List Statement
@@ -54,7 +54,7 @@ pub record IsNestedBody (text : List ℕ) (entries : List ClassEntry) (scope : �
   pub shows : Shows text entries r.top (reverse before ++ visible)
   pub outer : r.outer ≡ scope
 
--- the bodies that stand in these statements are added
+-- the bodies in these statements were appended
 pub record AreNestedBodies (text : List ℕ) (entries : List ClassEntry) (scope : ℕ) (visible statements : List Statement) (old new : List NestedBody) : Type 0 where
   pub more : List NestedBody
   pub is : new ≡ old ++ more
@@ -64,13 +64,13 @@ pub record AreNestedBodies (text : List ℕ) (entries : List ClassEntry) (scope 
 abbrev pub written_ports : List WrittenElement → List (Option (ℕ × ℕ))
 written_ports ws = map (λ (w : WrittenElement). w.ports) ws
 
--- What a statement adds to the definitions after those that are visible before it: one at the end, or none.
+-- What a statement appends to the definitions: one definition, or none.
 pub record IsDefined (text : List ℕ) (visible : List Statement) (top : Option ℕ) (st : Statement) (old new : List ClassEntry) : Type 0 where
   pub entry : Option ClassEntry
   pub is : IsEntry text visible top st entry
   pub added : new ≡ old ++ cons_option entry []
 
--- One of these definitions is that synonym, with that meaning.
+-- One of these definitions is this synonym, with this meaning.
 pub record HasSynonym (text : List ℕ) (entries : List ClassEntry) (original : Span) (m : Option Meaning) : Type 0 where
   pub place : ℕ
   pub entry : ClassEntry
@@ -78,7 +78,7 @@ pub record HasSynonym (text : List ℕ) (entries : List ClassEntry) (original : 
   pub is : entry.original ≡ Some original
   pub class : meaning_by entry.class ≡ m
 
--- A synonym among these statements, and what its class means.
+-- A synonym among these statements, and the meaning of its class.
 pub record IsSynonymAmong (text : List ℕ) (visible statements : List Statement) (original : Span) (m : Option Meaning) : Type 0 where
   pub before : List Statement
   pub after : List Statement
@@ -86,7 +86,7 @@ pub record IsSynonymAmong (text : List ℕ) (visible statements : List Statement
   pub splits : statements ≡ before ++ statement.Synonym name original ∷ after
   pub meaning : m ≡ meaning text (reverse before ++ visible) (bytes_at text original)
 
--- the synonyms among the definitions that are added are those of these statements
+-- the synonyms among the appended definitions are exactly those of these statements
 pub record AddsSynonyms (text : List ℕ) (visible statements : List Statement) (old new : List ClassEntry) : Type 0 where
   pub sound : (i : ℕ) (e : ClassEntry) (w : Span) → slice_get new i ≡ Some e → e.original ≡ Some w →
       (slice_get old i ≡ Some e) ⊎ IsSynonymAmong text visible statements w (meaning_by e.class)

@@ -1,4 +1,5 @@
--- What the code keeps of the definitions of classes: a list of them, in which each names the one before it that is visible with it.
+-- The stored definitions of classes: a list in which each definition has the index of the one that
+-- is visible before it.
 use Rattle.std.specs.Prelude.{◌≡◌, ◌<◌, ℕ, List, [], ◌∷◌, ◌++◌, map, filter_map, slice_get, Bool, nat_lt, Option, Some, None, if◌then◌else◌}
 use Rattle.click_text.specs.declared.syntax.Span.{Span}
 use Rattle.click_text.specs.declared.syntax.Statement.{Statement}
@@ -20,12 +21,13 @@ meaning_by None = None
 meaning_by (Some (class.Primitive k)) = Some (primitive k)
 meaning_by (Some (class.Compound b)) = Some (compound b)
 
--- a place is below another
+-- the index is below n, if there is one
 abbrev pub IsBelow : Option ℕ → ℕ → Type 0
 IsBelow None n = Unit {0}
 IsBelow (Some i) n = i < n
 
--- At this place a definition of that name and meaning stands, and at the older place that it names what is visible before it.
+-- At index `place` is a definition with this name and meaning, and what is visible before it is at
+-- its index `older`.
 pub record IsShown (text : List ℕ) (entries : List ClassEntry) (top : Option ℕ) (name : Span) (m : Option Meaning) (before : Option ℕ → Type 0) : Type 0 where
   pub place : ℕ
   pub entry : ClassEntry
@@ -36,7 +38,8 @@ pub record IsShown (text : List ℕ) (entries : List ClassEntry) (top : Option �
   pub below : IsBelow entry.older place
   pub older : before entry.older
 
--- at the top of the definitions are those of these statements, the last first
+-- from index `top` back, the list has the definitions of these statements, of which the last comes
+-- first
 abbrev pub Shows : List ℕ → List ClassEntry → Option ℕ → List Statement → Type 0
 Shows text entries top [] = top ≡ None
 Shows text entries top (statement.Definition n b ∷ older) = IsShown text entries top n (Some (compound b)) (λ t. Shows text entries t older)
@@ -44,7 +47,7 @@ Shows text entries top (statement.Synonym n c ∷ older) =
     IsShown text entries top n (meaning text older (bytes_at text c)) (λ t. Shows text entries t older)
 Shows text entries top (_ ∷ older) = Shows text entries top older
 
--- the definition at a place below a limit
+-- the definition at an index below a limit, with its index
 abbrev pub entry_found : ℕ → Option ClassEntry → Option (ℕ × ClassEntry)
 entry_found i None = None
 entry_found i (Some e) = Some (i, e)
@@ -53,7 +56,7 @@ abbrev pub entry_from : List ClassEntry → Option ℕ → ℕ → Option (ℕ �
 entry_from entries None limit = None
 entry_from entries (Some i) limit = if nat_lt i limit then entry_found i (slice_get entries i) else None
 
--- An element as the code keeps it is this one as it is written.
+-- w is the stored form of the written element p.
 pub record IsWrittenElement (text : List ℕ) (entries : List ClassEntry) (w : WrittenElement) (p : Placed) : Type 0 where
   pub element : w.element ≡ p.element
   pub visible : Shows text entries w.top p.visible
@@ -67,26 +70,26 @@ AreWritten text entries (w ∷ ws) (p ∷ ps) = IsWrittenElement text entries w 
 abbrev pub elements_of : List WrittenElement → List Element
 elements_of ws = map (λ (w : WrittenElement). w.element) ws
 
--- the names that these elements are declared under
+-- the names under which these elements are declared
 abbrev pub names_declared : List ℕ → List Element → List (List ℕ)
 names_declared text es = filter_map (λ (e : Element). head_name text e.head) es
 
--- what the code's role stands for
+-- the role that the code's role stands for
 abbrev pub role_kept : RoleKept → Role
 role_kept kept.Pseudo = pseudo
 role_kept kept.Refers = refers
 role_kept kept.Makes = makes
 
--- an element of a scope that the code keeps
+-- the scope element that a stored one stands for
 abbrev pub scope_element_of : List ℕ → ScopeElementKept → ScopeElement
 scope_element_of text l = record { name = l.name.items; meaning = meaning_by l.class; text = string_or_empty text l.text; head = l.head }
 
--- how many elements stand before each of these as written, where n stand before them all
+-- the number of elements before each of these written elements, after n others
 unfoldable pub numbers_from : List ℕ → Bool → List (List ℕ) → ℕ → List Element → List ℕ
 numbers_from text in_body declared n [] = []
 numbers_from text in_body declared n (e ∷ es) = n ∷ numbers_from text in_body declared (count_with (role text in_body declared e) n) es
 
--- what a statement adds to the definitions after those that are visible before it
+-- the definition that a statement makes after those that are visible before it
 abbrev pub IsEntry : List ℕ → List Statement → Option ℕ → Statement → Option ClassEntry → Type 0
 IsEntry text visible top (statement.Definition n b) None = ⊥
 IsEntry text visible top (statement.Definition n b) (Some e) =
@@ -97,6 +100,6 @@ IsEntry text visible top (statement.Synonym n d) (Some e) =
 IsEntry text visible top _ None = Unit {0}
 IsEntry text visible top _ (Some e) = ⊥
 
--- further definitions stand after these
+-- `new` has further definitions after `old`
 abbrev pub IsMore : List ClassEntry → List ClassEntry → Type 0
 IsMore old new = (more : List ClassEntry) × (new ≡ old ++ more)

@@ -1,4 +1,4 @@
--- The connections of each scope, as the code keeps them.
+-- The stored connections of each scope.
 use Rattle.std.specs.Prelude.{◌≡◌, ◌≢◌, List, [], ◌∷◌, slice_get, Some}
 use Rattle.click_scopes.specs.Elements.{ScopeElement, pseudo, input_name, output_name}
 use Rattle.click_scopes.specs.Faults.{End, WrittenConnection}
@@ -7,7 +7,7 @@ use Rattle.click_scopes.specs.declared.written_connections.Owner.TheVariants as 
 use Rattle.click_scopes.specs.declared.written_connections.End.{End as EndKept}
 use Rattle.click_scopes.specs.declared.written_connections.WrittenConnection.{WrittenConnection as ConnectionKept}
 
--- whose port an end is: the body's own, or that of an element among the scope's elements
+-- the port of an end belongs to this owner: the body itself, or one of the scope's elements
 abbrev pub IsOwner : List ScopeElement → Owner → End → Type 0
 IsOwner ls owner.Input e = (e.role ≡ pseudo) × (e.name ≡ input_name)
 IsOwner ls owner.Output e = (e.role ≡ pseudo) × (e.name ≡ output_name)

@@ -1,4 +1,4 @@
--- The arguments of a text, as they are read from the front.
+-- The arguments of a text, read from the front.
 use Rattle.std.proofs.Common.{◌≡◌, ℕ, ◌+◌, ◌-◌, ◌≤◌, List, [], ◌∷◌, ◌++◌, length, take, drop, Bool, true, false, eqb, Option, Some, None, refl, sym, ◌∙◌, ap, arith, inl, inr, append_assoc}
 use Rattle.std.specs.Prelude.{if◌then◌else◌, ◌&&◌}
 use Rattle.std.proofs.lemmas.Bool.{cases_Bool, and_parts, eqb-true}
@@ -11,14 +11,14 @@ use Rattle.click_text.specs.Arguments.{is_comma, all_blank, front, without_back,
 use Rattle.click_text.specs.kept.PartialArgument.{found_or, grown_to, grown_argument}
 use Rattle.click_text.proofs.OfItems.OneItemList.{IsDone, done_more, done_all, none_done, bytes_at, bytes_long, size-append, item_some}
 
--- what comes of the items left, after those of which that much was found
+-- the arguments from here on: f was found of the current one, and the items are left
 abbrev pub rest_of : ℕ → ℕ → Option Span → List Item → List Span
 rest_of at depth f [] = found_or f at ∷ []
 rest_of at depth f (i ∷ items) =
     if eqb depth 0 && is_comma i.kind then found_or f at ∷ rest_of (at + 1) depth None items
     else rest_of (at + length i.bytes) (parentheses_after i.kind depth) (grown_argument f i.kind at (at + length i.bytes)) items
 
--- what is found of the items of an argument, which begin at that place
+-- what is found of an argument with these items, which begin at offset `at`
 abbrev pub found_in : ℕ → List Item → Option Span
 found_in at p = if all_blank p then None else Some (argument_span at p)
 
@@ -57,7 +57,7 @@ back_solid : (p : List Item) (i : Item) → is_blank_item i ≡ false → withou
 back_solid [] i h = rw h refl
 back_solid (j ∷ p) i h = rw (solid_more (j ∷ p) i h, back_solid p i h) refl
 
--- what is found grows with the items
+-- what is found grows with each item
 found_more : (at : ℕ) (p : List Item) (i : Item) → found_in at (p ++ i ∷ []) ≡ grown_argument (found_in at p) i.kind (at + size p) (at + size p + length i.bytes)
 found_more at p i = elim (cases_Bool (is_blank_item i)) [
   | inl e ↦ elim (cases_Bool (all_blank p)) [
@@ -72,7 +72,7 @@ found_more at p i = elim (cases_Bool (is_blank_item i)) [
       ]
 ]
 
--- the items of an argument that were read, before the others
+-- the lists of items, with the items p in front of the first of them
 abbrev pub all_put : List Item → List (List Item) → List (List Item)
 all_put p [] = p ∷ []
 all_put p (q ∷ ps) = (p ++ q) ∷ ps
@@ -102,14 +102,15 @@ rest_is (i ∷ items) p from depth = elim (cases_Bool (eqb depth 0 && is_comma i
       rw (e, all_put-put, ← h, found_more from p i, s) refl
 ]
 
--- the arguments of items are what comes of them all
+-- the arguments of a text are `rest_of` all of its items
 pub cut_is : (items : List Item) → cut items ≡ (if all_blank items then [] else rest_of 0 0 None items)
 cut_is items =
     let h = rest_is items [] 0 0 in
     let g : rest_of 0 0 None items ≡ arguments_from 0 (parted is_comma 0 items) = rw nothing_put at h in
     rw g refl
 
--- What the code keeps: `spans` are the arguments that ended before the place, `found` is what was found of the next.
+-- The invariant of the loop: `spans` are the arguments that ended before offset `at`, and `found`
+-- is what was found of the next one.
 pub record Cutting (text : List ℕ) (at : ℕ) (depth : ℕ) (spans : List Span) (found : Option Span) : Type 0 where
   pub done : List Item
   pub is_done : IsDone text at done
@@ -133,7 +134,7 @@ comma_solid kind.White p h = cc
 comma_solid kind.Comment p h = cc
 comma_solid _ p h = refl
 
--- a comma is that byte
+-- an item that is a comma is that byte
 pub comma_form : (k : ItemKind) (p : List ℕ) → is_comma k ≡ true → IsItem k p → p ≡ 44 ∷ []
 comma_form (kind.Byte b) p h (w, e) = rw (e, eqb-true b 44 h) refl
 comma_form _ p h f = cc
@@ -163,7 +164,7 @@ both_false depth b h = elim (cases_Bool (eqb depth 0 && b)) [
   | inr e ↦ e
 ]
 
--- a comma outside parentheses
+-- the step of a comma outside parentheses
 pub cutting_comma : (text : List ℕ) (at depth : ℕ) (spans : List Span) (found : Option Span) (k : ItemKind) (n : ℕ) → LongestItem (take (length text - at) (drop at text)) k n → depth ≡ 0 → is_comma k ≡ true →
     Cutting text at depth spans found → Cutting text (at + n) depth (spans ++ found_or found at ∷ []) None
 cutting_comma text at depth spans found k n l z h c =
@@ -182,7 +183,7 @@ cutting_comma text at depth spans found k n l z h c =
       solid = λ e f. absurd (snoc_some spans (found_or found at) f);
     }
 
--- another item
+-- the step of any other item
 pub cutting_more : (text : List ℕ) (at depth : ℕ) (spans : List Span) (found : Option Span) (k : ItemKind) (n : ℕ) → LongestItem (take (length text - at) (drop at text)) k n → (eqb depth 0 && is_comma k) ≡ false →
     Cutting text at depth spans found → Cutting text (at + n) (parentheses_after k depth) spans (grown_argument found k at (at + n))
 cutting_more text at depth spans found k n l h c =
@@ -206,7 +207,7 @@ cutting_more text at depth spans found k n l h c =
       ];
     }
 
--- at the end, where nothing but white space and comments has come
+-- the end, if the text is only white space and comments
 pub cutting_blank : (text : List ℕ) (at depth : ℕ) (spans : List Span) (found : Option Span) → length text ≤ at → spans ≡ [] → found ≡ None → Cutting text at depth spans found → AreArguments text spans
 cutting_blank text at depth spans found h e f c = record {
   items = c.done;

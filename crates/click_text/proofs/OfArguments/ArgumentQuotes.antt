@@ -1,4 +1,4 @@
--- What an argument stands for, as it is read from the front.
+-- The bytes that an argument stands for, read from the front.
 use Rattle.std.proofs.Common.{◌≡◌, ℕ, ◌+◌, ◌-◌, ◌<◌, ◌≤◌, List, [], ◌∷◌, ◌++◌, length, get_or, take, drop, Option, Some, None, refl, sym, append_assoc}
 use Rattle.std.proofs.lemmas.List.{append-nil, drop_more}
 use Rattle.click_text.specs.declared.argument_bytes.Escape.{Escape}
@@ -13,7 +13,7 @@ pub before_before : (p q : List ℕ) (o : Option (List ℕ)) → before p (befor
 before_before p q None = refl
 before_before p q (Some r) = rw (append_assoc p q r) refl
 
--- a byte with escapes before it
+-- one byte of a text with escapes
 pub unescaped_step : (o : Option (List ℕ)) (s : Escape) (t : Step) (p bytes : List ℕ) (i : ℕ) → i < length bytes → Some t ≡ stepped s (get_or bytes i 0) → o ≡ before p (unescaped s (drop i bytes)) →
     o ≡ before (p ++ added t.adds) (unescaped t.state (drop (i + 1) bytes))
 unescaped_step o s t p bytes i l h e =
@@ -22,7 +22,7 @@ unescaped_step o s t p bytes i l h e =
     let f : o ≡ before p (before (added t.adds) (unescaped t.state r)) = rw (drop_more bytes i 0 l, g) at e in
     rw before_before at f
 
--- What the code keeps: `bytes` is what the items before the place stand for.
+-- The invariant of the loop: `bytes` are the bytes that the items before offset `at` stand for.
 pub record Quoting (text : List ℕ) (at : ℕ) (bytes : List ℕ) : Type 0 where
   pub done : List Item
   pub is_done : IsDone text at done
@@ -35,7 +35,7 @@ nothing_before (Some p) = refl
 pub quoting_none : (text : List ℕ) → Quoting text 0 []
 quoting_none text = record { done = []; is_done = none_done text; goes_on = λ items. nothing_before (plain_bytes items) }
 
--- an item that stands for some bytes
+-- the step of an item that stands for the bytes p
 pub quoting_more : (text : List ℕ) (at : ℕ) (bytes : List ℕ) (k : ItemKind) (n : ℕ) (p : List ℕ) → LongestItem (take (length text - at) (drop at text)) k n → plain_item k (bytes_at text at n) ≡ Some p →
     Quoting text at bytes → Quoting text (at + n) (bytes ++ p)
 quoting_more text at bytes k n p l h c =
@@ -49,7 +49,7 @@ quoting_more text at bytes k n p l h c =
           rw (append_assoc c.done (i ∷ []) items, g, s, before_before bytes p (plain_bytes items)) refl;
     }
 
--- one that stands for none: bad quoting, whatever follows
+-- the step of an item with bad quoting: the argument has bad quoting, whatever follows
 pub quoting_bad : (text : List ℕ) (at : ℕ) (bytes : List ℕ) (k : ItemKind) (n : ℕ) → LongestItem (take (length text - at) (drop at text)) k n → plain_item k (bytes_at text at n) ≡ None →
     Quoting text at bytes → StandsFor text None
 quoting_bad text at bytes k n l h c =

@@ -1,4 +1,4 @@
--- The arguments of a text, joined by commas, are the text but for white space and comments.
+-- The arguments of a text, joined by commas, are the text up to white space and comments.
 use Rattle.std.proofs.Common.{◌≡◌, ◌≢◌, ℕ, ◌+◌, ◌≤◌, List, [], ◌∷◌, ◌++◌, length, take, drop, true, false, eqb, refl, sym, ◌∙◌, ap, subst, arith, inl, inr, append_assoc, length-append, length-take, Some}
 use Rattle.std.specs.Prelude.{if◌then◌else◌, ◌&&◌}
 use Rattle.std.proofs.lemmas.Bool.{cases_Bool, and_parts}
@@ -24,7 +24,7 @@ drop_own : (a b : List ℕ) → drop (length a) (a ++ b) ≡ b
 drop_own [] b = refl
 drop_own (x ∷ a) b = drop_own a b
 
--- the longest item of a text is that of each front of the text that it stands in
+-- the longest item of a text is also the longest of each prefix that contains it
 longest_front : (p q : List ℕ) (k : ItemKind) (n : ℕ) → LongestItem (p ++ q) k n → n ≤ length p → LongestItem p k n
 longest_front p q k n l h = record {
   within = h;
@@ -39,7 +39,7 @@ put_before a b c k items l r =
     let s = next (a ++ b) k (length a) items f (rw drop_own r) in
     rw take_own at s
 
--- the first of a text's items are those of their bytes, and so are the last
+-- the first items of a text are the items of their own bytes, and so are the last ones
 items_front : {text : List ℕ} {items : List Item} (p q : List Item) → AreItems text items → items ≡ p ++ q → AreItems (bytes_of p) p
 items_front [] q r e = ended
 items_front (i ∷ p) q ended e = cc
@@ -57,7 +57,7 @@ items_back {text = text} {items = items} [] q r e = let f : bytes_of items ≡ t
 items_back (i ∷ p) q ended e = cc
 items_back (i ∷ p) q (next text k n items l r) e = let g : items ≡ p ++ q = cc in items_back p q r g
 
--- the items of their own bytes
+-- the items are those of their own bytes
 abbrev Own : List Item → Type 0
 Own p = AreItems (bytes_of p) p
 
@@ -67,7 +67,7 @@ own_front p q r = items_front p q r refl
 own_back : (p q : List Item) → Own (p ++ q) → Own q
 own_back p q r = items_back p q r refl
 
--- white space and comments
+-- white space and comments as items are white space and comments as pieces
 longest_piece : (text : List ℕ) (k : Piece) (i : ItemKind) (n : ℕ) → k ≢ piece.Word → family k ≡ k → LongestItem text i n → IsPiece k (take n text) → ((m : ℕ) → IsPiece k (take m text) → IsItem i (take m text)) → Longest text k n
 longest_piece text k i n w f l p g =
     let b : begins text ≡ Some k = begins_as k text n p ∙ ap Some f in
@@ -87,7 +87,7 @@ blank_reads at (next text kind.Single n items l r) h = cc
 blank_reads at (next text kind.Hexadecimal n items l r) h = cc
 blank_reads at (next text (kind.Byte b) n items l r) h = cc
 
--- the parts of the items of an argument
+-- the items of an argument after its front, and those at its back
 abbrev after_front : List Item → List Item
 after_front [] = []
 after_front (i ∷ p) = if is_blank_item i then after_front p else i ∷ p
@@ -218,7 +218,7 @@ sooner : (from later : ℕ) (spans : List Span) (to : ℕ) → from ≤ later �
 sooner from later [] to h o = tt
 sooner from later (s ∷ spans) to h (a, b, c, d) = (omega arith, b, c, d)
 
--- what is joined stands in order
+-- joined spans are in order
 joined_in_order : {at : ℕ} {text : List ℕ} {spans : List Span} (to : ℕ) → AreJoined at text spans → at + length text ≤ to → SpansInOrder at spans to
 joined_in_order to (last at b i a p q) h =
     (omega arith, omega arith, omega (arith, length-append b (i ++ a), length-append i a), tt)

@@ -1,4 +1,4 @@
--- A text has one list of arguments.
+-- A text has at most one list of arguments.
 use Rattle.std.proofs.Common.{◌≡◌, ℕ, List, sym, ap, ◌∙◌}
 use Rattle.click_text.specs.declared.syntax.Span.{Span}
 use Rattle.click_text.specs.Arguments.{AreArguments, cut}

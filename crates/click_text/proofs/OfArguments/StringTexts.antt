@@ -1,4 +1,4 @@
--- In the text of a configuration string no quote and no comment is left open.
+-- The text of a configuration string closes each quote and comment that it opens.
 use Rattle.std.proofs.Common.{◌≡◌, ℕ, zero, suc, ◌<◌, ◌≤◌, List, [], ◌∷◌, ◌++◌, length, take, drop, Bool, true, false, eqb, refl, sym, ◌∙◌, ap, arith, inl, inr, ◌⊎◌, length-take, length-append}
 use Rattle.std.specs.Prelude.{◌&&◌}
 use Rattle.std.specs.List.{list_all}
@@ -26,7 +26,7 @@ modes-append : (m : Mode) (p q : List ℕ) → modes m (p ++ q) ≡ modes (modes
 modes-append m [] q = refl
 modes-append m (b ∷ p) q = modes-append (mode_after m b) p q
 
--- a string is closed outside quotes and comments
+-- a string closes outside quotes and comments
 closed_outside : (m : Mode) (d : ℕ) (p : List ℕ) → closes m d (p ++ 41 ∷ []) ≡ true → is_outside (modes m p) ≡ true
 closed_outside m d [] h = let x = and_parts (is_outside m && true) (eqb d 1) h in (and_parts (is_outside m) true x.0).0
 closed_outside m d (b ∷ []) h = elim (cases_Bool (closes_outermost m d b)) [
@@ -42,7 +42,7 @@ plain_is : (m : Mode) → is_plain m ≡ true → m ≡ mode.Plain
 plain_is mode.Plain h = refl
 plain_is _ h = cc
 
--- after what leads out of a quote nothing is open
+-- after the byte that ends a quote, nothing is open
 left_plain : (m : Mode) (r : List ℕ) → ends_quote m r ≡ true → modes m r ≡ mode.Plain
 left_plain m [] h = absurd (false≢true h)
 left_plain m (b ∷ []) h = plain_is (mode_after m b) h
@@ -51,7 +51,7 @@ left_plain m (b ∷ c ∷ r) h = elim (cases_Bool (is_plain (mode_after m b))) [
   | inr e ↦ let g : ends_quote (mode_after m b) (c ∷ r) ≡ true = rw e at h in left_plain (mode_after m b) (c ∷ r) g
 ]
 
--- after the end of a comment, too
+-- after the end of a comment, nothing is open
 star_or_block : (c : ℕ) → eqb c 47 ≡ false → mode_after mode.Star c ≡ mode_after mode.Block c
 star_or_block c h = rw h refl
 
@@ -67,7 +67,7 @@ ended_plain (b ∷ c ∷ d ∷ r) h = elim (cases_Bool (eqb b 42)) [
   | inr e ↦ let g : ends_comment (c ∷ d ∷ r) ≡ true = rw e at h in rw e (ended_plain (c ∷ d ∷ r) g)
 ]
 
--- a line goes on up to its end
+-- a comment up to an LF goes on before it
 not_line_feed : (b : ℕ) → in_line b ≡ true → eqb b 10 ≡ false
 not_line_feed b h = elim (cases_Bool (eqb b 10)) [ inl e ↦ let g = rw e at h in absurd (false≢true g) | inr e ↦ e ]
 
@@ -77,7 +77,7 @@ line_stays (b ∷ r) h =
     let x = and_parts (in_line b) (list_all in_line r) h in
     rw (not_line_feed b x.0) (line_stays r x.1)
 
--- a quote that nothing leads out of
+-- a quote that is never ended stays open
 abbrev inside : Mode → Bool
 inside mode.Double = true
 inside mode.Escape = true
@@ -119,7 +119,7 @@ never_left m (b ∷ r) i h =
     let e : is_plain (mode_after m b) ≡ false = h 1 (omega arith) in
     never_left (mode_after m b) r (inside_after m b i e) (never_more m b r e h)
 
--- a comment that nothing ends
+-- a comment that is never ended stays open
 abbrev NeverEnds : List ℕ → Type 0
 NeverEnds r = (n : ℕ) → n ≤ length r → ends_comment (take n r) ≡ false
 
@@ -147,7 +147,7 @@ never_ended (b ∷ c ∷ r) h =
       | inr e ↦ rw e g
     ]
 
--- one item
+-- the mode after one item
 white_plain : (b : ℕ) → white b ≡ true → plain_after b ≡ mode.Plain
 white_plain b h = elim (cases_Bool (eqb b 34)) [
   | inl e ↦ let f = rw (eqb-true b 34 e) at h in cc
@@ -163,7 +163,7 @@ white_plain b h = elim (cases_Bool (eqb b 34)) [
   ]
 ]
 
--- what holds after an item: the text ends, or it is closed from there on
+-- what holds after an item: the text ends, or its end is outside quotes and comments
 abbrev Goes : List ℕ → Type 0
 Goes rest = (rest ≡ []) ⊎ (is_outside (modes mode.Plain rest) ≡ true)
 
@@ -186,7 +186,7 @@ take_one_more : (p : List ℕ) (c : ℕ) (s : List ℕ) → take (suc (length p)
 take_one_more [] c s = refl
 take_one_more (b ∷ p) c s = ap (λ r. b ∷ r) (take_one_more p c s)
 
--- a comment up to the end of the line ends there
+-- a comment up to an LF ends there
 line_ends : (p : List ℕ) (c : ℕ) (s : List ℕ) → IsPiece piece.LineComment p → ((j : ItemKind) (m : ℕ) → length p < m → m ≤ length (p ++ c ∷ s) → IsItem j (take m (p ++ c ∷ s)) → ⊥) → eqb c 10 ≡ true
 line_ends p c s (r, e, a) h = elim (cases_Bool (eqb c 10)) [
   | inl f ↦ f

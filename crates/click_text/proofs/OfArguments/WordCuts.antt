@@ -1,4 +1,4 @@
--- The words of an argument, as they are read from the front.
+-- The words of an argument, read from the front.
 use Rattle.std.proofs.Common.{◌≡◌, ℕ, ◌+◌, ◌-◌, ◌≤◌, List, [], ◌∷◌, ◌++◌, length, take, drop, true, false, eqb, refl, sym, ◌∙◌, arith, inl, inr, append_assoc}
 use Rattle.std.specs.Prelude.{if◌then◌else◌, ◌&&◌}
 use Rattle.std.proofs.lemmas.Bool.{cases_Bool}
@@ -10,7 +10,7 @@ use Rattle.click_text.specs.Words.{spaced_as, spaced, is_space, word_before, wor
 use Rattle.click_text.proofs.OfItems.OneItemList.{IsDone, done_more, done_all, none_done, bytes_at, bytes_of-append, item_some}
 use Rattle.click_text.proofs.OfArguments.ArgumentCuts.{all_put, all_put-put, nothing_put, depth_rises}
 
--- what comes of the items left, after the bytes of a word
+-- the words from here on: `word` was read of the current one, and the items are left
 abbrev pub rest_of : ℕ → List ℕ → List Item → List (List ℕ)
 rest_of depth word [] = word_before word []
 rest_of depth word (i ∷ items) =
@@ -37,7 +37,8 @@ spaced-append : (p q : List Item) → spaced (p ++ q) ≡ spaced p ++ spaced q
 spaced-append [] q = refl
 spaced-append (i ∷ p) q = rw (spaced-append p q) refl
 
--- What the code keeps: `words` are the words that ended before the place, `word` is the next as far as it was read.
+-- The invariant of the loop: `words` are the words that ended before offset `at`, and `word` is
+-- what was read of the next one.
 pub record WordCutting (text : List ℕ) (at : ℕ) (depth : ℕ) (words : List (List ℕ)) (word : List ℕ) : Type 0 where
   pub done : List Item
   pub is_done : IsDone text at done
@@ -47,7 +48,7 @@ pub record WordCutting (text : List ℕ) (at : ℕ) (depth : ℕ) (words : List 
 pub words_none : (text : List ℕ) → WordCutting text 0 0 [] []
 words_none text = record { done = []; is_done = none_done text; shallow = omega arith; goes_on = λ items. refl }
 
--- white space and comments are white space, where comments are spaces
+-- with spaces for comments, exactly white space and comments are spaces
 spaced_kind : (k : ItemKind) (p : List ℕ) → is_space (spaced_as k p).kind ≡ blank_kind k
 spaced_kind kind.White p = refl
 spaced_kind kind.Comment p = refl
@@ -68,7 +69,7 @@ before_append : (word : List ℕ) (words : List (List ℕ)) → word_before word
 before_append [] words = refl
 before_append (b ∷ word) words = refl
 
--- white space or a comment outside parentheses
+-- the step of white space or a comment outside parentheses
 pub words_end : (text : List ℕ) (at depth : ℕ) (words : List (List ℕ)) (word : List ℕ) (k : ItemKind) (n : ℕ) → LongestItem (take (length text - at) (drop at text)) k n → depth ≡ 0 → blank_kind k ≡ true →
     WordCutting text at depth words word → WordCutting text (at + n) depth (words ++ word_before word []) []
 words_end text at depth words word k n l z h c =
@@ -83,7 +84,7 @@ words_end text at depth words word k n l z h c =
           rw (append_assoc c.done (i ∷ []) items, g, s, before_append word (rest_of depth [] (spaced items)), append_assoc) refl;
     }
 
--- another item
+-- the step of any other item
 pub words_more : (text : List ℕ) (at depth : ℕ) (words : List (List ℕ)) (word : List ℕ) (k : ItemKind) (n : ℕ) → LongestItem (take (length text - at) (drop at text)) k n → (eqb depth 0 && blank_kind k) ≡ false →
     WordCutting text at depth words word → WordCutting text (at + n) (parentheses_after k depth) words (word ++ (spaced_as k (bytes_at text at n)).bytes)
 words_more text at depth words word k n l h c =

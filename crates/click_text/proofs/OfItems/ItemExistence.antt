@@ -1,4 +1,4 @@
--- Each text has a list of items.
+-- Every text has a list of items.
 use Rattle.std.proofs.Common.{◌≡◌, ℕ, zero, suc, ◌<◌, ◌≤◌, List, [], ◌∷◌, length, take, drop, Bool, true, false, eqb, refl, sym, ◌∙◌, ap, subst, arith, inl, inr, ◌⊎◌, length-drop}
 use Rattle.std.specs.Prelude.{if◌then◌else◌}
 use Rattle.std.specs.List.{list_all}
@@ -11,7 +11,7 @@ use Rattle.click_text.specs.Items.{ends_quote, IsItem, LongestItem, Item, item, 
 use Rattle.click_text.proofs.OfItems.ItemForms.{no_bytes, short_of, short_form}
 use Rattle.click_text.proofs.OfItems.OneItemList.{item_some}
 
--- whether two bytes and others are one item
+-- whether two bytes and some others are one item
 abbrev is_long : ℕ → ℕ → List ℕ → Bool
 is_long x y r =
     if eqb x 47 then (if eqb y 47 then list_all (λ b. if eqb b 10 then false else true) r else if eqb y 42 then ends_comment r else false)
@@ -65,7 +65,7 @@ whole_item x y r h = elim (cases_Bool (eqb x 47)) [
   ]
 ]
 
--- whether bytes are an item
+-- it can be decided whether bytes are an item
 some_item : (p : List ℕ) → AnItem p ⊎ (AnItem p → ⊥)
 some_item [] = inr (λ w. no_bytes w.0 w.1)
 some_item (x ∷ []) = inl (short_of x, short_form x)
@@ -83,7 +83,7 @@ next_or_more (suc m) (suc n) h = elim (next_or_more m n (omega arith)) [ inl e �
 abbrev First : List ℕ → Type 0
 First text = (k : ItemKind) × (n : ℕ) × LongestItem text k n
 
--- the longest item, where none is longer than m bytes
+-- a longest item exists, if none is longer than m bytes
 longest_within : (text : List ℕ) (m : ℕ) → m ≤ length text → 0 < m → ((k : ItemKind) (n : ℕ) → m < n → n ≤ length text → IsItem k (take n text) → ⊥) → First text
 longest_within text zero l z h = absurd (omega arith)
 longest_within [] (suc m) l z h = absurd (omega arith)

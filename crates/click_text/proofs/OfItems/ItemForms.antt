@@ -1,4 +1,4 @@
--- Which item begins a text, and how long it is.
+-- The item that begins a text, and its length.
 use Rattle.std.proofs.Common.{◌≡◌, ◌≢◌, ℕ, zero, suc, ◌+◌, ◌<◌, ◌≤◌, List, [], ◌∷◌, ◌++◌, length, get_or, take, drop, true, false, eqb, Option, Some, None, refl, sym, ◌∙◌, subst, arith, inl, inr}
 use Rattle.std.specs.Prelude.{if◌then◌else◌, ◌&&◌}
 use Rattle.std.proofs.lemmas.Bool.{false≢true, cases_Bool, eqb-true, ne_eqb}
@@ -17,7 +17,7 @@ use Rattle.click_text.proofs.OfPieces.WordForms.{front_splits}
 use Rattle.click_text.proofs.OfPieces.LongestPiece.{as_one, as_two}
 use Rattle.click_text.proofs.OfPieces.OnePieceList.{equal_by}
 
--- what leads out of a quote does so nowhere before
+-- bytes that end a quote do not end it earlier
 pub leaves_once : (m : Mode) (p : List ℕ) (y : ℕ) (ys : List ℕ) → ends_quote m p ≡ true → ends_quote m (p ++ y ∷ ys) ≡ false
 leaves_once m [] y ys h = absurd (false≢true h)
 leaves_once m (b ∷ []) y ys h = rw h refl
@@ -31,7 +31,7 @@ leaves_longer q r n m h l k g =
     let a : ends_quote q (take m r) ≡ false = rw (front_splits r n m l k) (leaves_once q (take n r) (get_or r n 0) (drop (n + 1) (take m r)) h) in
     false≢true (sym a ∙ g)
 
--- the kind of the items of several bytes that begin with these two
+-- the kind of an item of several bytes that begins with these two bytes
 abbrev pub long_of : ℕ → ℕ → Option ItemKind
 long_of b c =
     if eqb b 47 then Some kind.Comment
@@ -59,7 +59,7 @@ long_as (x ∷ y ∷ r) j (suc (suc m)) l k h = long_pair j x y (take m r) h
 pub no_long : (text : List ℕ) → long_of (get_or text 0 0) (get_or text 1 0) ≡ None → NoLongItem text
 no_long text e j m l k h = let f = long_as text j m l k h in cc
 
--- no item has no bytes
+-- no item is empty
 pub no_bytes : (j : ItemKind) → IsItem j [] → ⊥
 no_bytes kind.White (b, w, e) = cc
 no_bytes kind.Comment (inl (q, e, a)) = cc
@@ -69,7 +69,7 @@ no_bytes kind.Single (q, e, a) = cc
 no_bytes kind.Hexadecimal (q, e, a) = cc
 no_bytes (kind.Byte b) (w, e) = cc
 
--- the kind of a byte alone
+-- the kind of an item of one byte
 abbrev pub short_of : ℕ → ItemKind
 short_of b = if white b then kind.White else kind.Byte b
 
@@ -92,7 +92,7 @@ short_form x = elim (cases_Bool (white x)) [
   | inr e ↦ rw e (e, refl)
 ]
 
--- comments
+-- comments as items are comments as pieces
 comment_piece : (text : List ℕ) (k : Piece) (n : ℕ) → get_or text 0 0 ≡ 47 → IsPiece k (take n text) → IsItem kind.Comment (take n text)
 comment_piece text k n e h =
     let b = begins_as k text n h in
@@ -112,7 +112,8 @@ comment_piece text k n e h =
       ]
     ]
 
--- an item of a kind that the beginning names, where no longer one is of that kind
+-- an item is the longest, if it has the kind that its first bytes determine and no longer one of
+-- that kind begins the text
 long_item_of : (text : List ℕ) (k : ItemKind) (n : ℕ) → long_of (get_or text 0 0) (get_or text 1 0) ≡ Some k → 0 < n → n ≤ length text → IsItem k (take n text) → ((m : ℕ) → n < m → m ≤ length text → IsItem k (take m text) → ⊥) → LongestItem text k n
 long_item_of text k n b z l f g = record {
   within = l;
@@ -138,7 +139,7 @@ no_comment_of text m g i (inr p) = g piece.BlockComment m i p
 pub no_comment_item : (text : List ℕ) → get_or text 0 0 ≡ 47 → NoPiece text → NoLongItem text
 no_comment_item text e g = no_item_of text kind.Comment (rw e refl) (λ m h i p. no_comment_of text m g i p)
 
--- quotes
+-- the longest item, if it is a quote
 opened : (q : Mode) (b : ℕ) (r s : List ℕ) → b ∷ r ≡ b ∷ s → ends_quote q s ≡ true → ends_quote q r ≡ true
 opened q b r s e h = let d : r ≡ s = cc in rw d h
 
@@ -179,7 +180,7 @@ angle_item text n z e f l a =
     rw s (subst (λ t. LongestItem t kind.Hexadecimal (suc (suc n))) (sym (as_two text 92 60 z e f))
     (long_item_of (92 ∷ 60 ∷ r) kind.Hexadecimal (suc (suc n)) refl (omega arith) (omega arith) (take n r, refl, a) (λ m h i p. angle_longer r n m a h i p)))
 
--- nothing leads out of the quote
+-- no prefix ends the quote
 abbrev pub Never : Mode → List ℕ → Type 0
 Never q r = (n : ℕ) → n ≤ length r → ends_quote q (take n r) ≡ false
 
@@ -211,7 +212,7 @@ no_angle text z e f g =
     subst (λ t. NoLongItem t) (sym (as_two text 92 60 z e f))
     (no_item_of (92 ∷ 60 ∷ drop 2 text) kind.Hexadecimal refl (λ m h i p. never_angle (drop 2 text) m g i p))
 
--- a byte that stands alone
+-- texts that begin with no item of more than one byte
 pub no_angle_here : (text : List ℕ) → get_or text 0 0 ≡ 92 → get_or text 1 0 ≢ 60 → NoLongItem text
 no_angle_here text e f = no_long text (rw (e, ne_eqb (get_or text 1 0) 60 f) refl)
 
@@ -237,7 +238,7 @@ white_long b c h = elim (cases_Bool (eqb b 47)) [
 pub no_long_white : (text : List ℕ) → white (get_or text 0 0) ≡ true → NoLongItem text
 no_long_white text h = no_long text (white_long (get_or text 0 0) (get_or text 1 0) h)
 
--- an item of one byte, where no longer one begins the text
+-- an item of one byte is the longest, if no longer one begins the text
 pub short_item : (text : List ℕ) → 0 < length text → NoLongItem text → LongestItem text (short_of (get_or text 0 0)) 1
 short_item [] z g = absurd (omega arith)
 short_item (x ∷ r) z g = record { within = omega arith; form = short_form x; longest = λ j m h i p. g j m h i p }
@@ -248,7 +249,7 @@ white_item text z h = let s = short_item text z (no_long_white text h) in rw h a
 pub byte_item : (text : List ℕ) → 0 < length text → white (get_or text 0 0) ≡ false → NoLongItem text → LongestItem text (kind.Byte (get_or text 0 0)) 1
 byte_item text z h g = let s = short_item text z g in rw h at s
 
--- the longest item is one
+-- there is only one longest item
 pub same_len : (text : List ℕ) (k j : ItemKind) (n m : ℕ) → LongestItem text k n → LongestItem text j m → n ≡ m
 same_len text k j n m l r = equal_by n m (λ h. l.longest j m h r.within r.form) (λ h. r.longest k n h l.within l.form)
 

@@ -1,4 +1,4 @@
--- A text has one list of items, which is read from the front.
+-- A text has at most one list of items.
 use Rattle.std.proofs.Common.{◌≡◌, ℕ, zero, suc, ◌+◌, ◌-◌, ◌<◌, ◌≤◌, List, [], ◌∷◌, ◌++◌, length, take, drop, refl, arith, length-take, length-drop, append_assoc, length-append}
 use Rattle.std.proofs.lemmas.List.{take-append-drop, append-nil, drop-drop, drop_all, take_rest}
 use Rattle.click_text.specs.declared.items.ItemKind.{ItemKind}
@@ -13,7 +13,7 @@ pub item_some : (text : List ℕ) (k : ItemKind) (n : ℕ) → LongestItem text 
 item_some text k zero l = absurd (no_bytes k l.form)
 item_some text k (suc n) l = omega arith
 
--- a text has one list of items
+-- a text has at most one list of items
 pub items_once : {text : List ℕ} {items others : List Item} → AreItems text items → AreItems text others → items ≡ others
 items_once ended ended = refl
 items_once ended (next text k n items l r) = absurd (no_item_in_none k n l.form)
@@ -36,7 +36,7 @@ bytes_of-append (i ∷ p) q = rw (bytes_of-append p q, append_assoc) refl
 pub size-append : (p q : List Item) → size (p ++ q) ≡ size p + size q
 size-append p q = rw bytes_of-append (length-append (bytes_of p) (bytes_of q))
 
--- The items up to a place are known.
+-- the items before offset `at` are `done`
 pub record IsDone (text : List ℕ) (at : ℕ) (done : List Item) : Type 0 where
   pub within : at ≤ length text
   pub long : size done ≡ at
@@ -45,7 +45,7 @@ pub record IsDone (text : List ℕ) (at : ℕ) (done : List Item) : Type 0 where
 pub none_done : (text : List ℕ) → IsDone text 0 []
 none_done text = record { within = omega arith; long = refl; goes_on = λ items r. r }
 
--- the bytes of an item that begins what is left of a text
+-- the n bytes of an item that begins at offset `at`
 abbrev pub bytes_at : List ℕ → ℕ → ℕ → List ℕ
 bytes_at text at n = take n (take (length text - at) (drop at text))
 

@@ -1,4 +1,4 @@
--- From the machine to the grammar: what may still come in a state, by the grammar.
+-- From the machine to the grammar: what may still follow in a state, in terms of the grammar.
 use Rattle.std.proofs.Common.{inl, inr, ◌≡◌, ℕ, List, [], ◌∷◌, ◌++◌, length, Option, Some, None, refl, append_assoc}
 use Rattle.std.proofs.lemmas.List.{append-nil}
 use Rattle.click_text.specs.declared.syntax.Span.{Span}
@@ -18,7 +18,7 @@ use Rattle.click_text.specs.kept.ParserStates.{Place, top, inside, Use, as_eleme
 use Rattle.click_text.specs.kept.ParserStates as machine
 use Rattle.click_text.proofs.OfParser.StateTokens.{begun_by, classed_by, arrowed_by, joined_by, numbered_by, bracketed_by, beyond_by, headed_by, worded_by, firsted_by, named_by, names_by, over_by, listed_by, defined_by, define_on_by, opening_by, stated_by, required_by, unfolded_by, formal_by, formal_on_by}
 
--- what stands after names: their class, or further ones
+-- after names: `::`, or further names
 pub data Names : List Token → List Span → List Token → Type 0 where
   names_end : {d : Span} {ts : List Token} → Names (token.DoubleColon d ∷ ts) [] ts
   names_more : {c s : Span} {ts rest : List Token} {ns : List Span} → Names ts ns rest → Names (token.Comma c ∷ token.Word s ∷ ts) (s ∷ ns) rest
@@ -27,7 +27,7 @@ names_are : {ts rest : List Token} {ns : List Span} → Names ts ns rest → (c 
 names_are names_end c s = last_name
 names_are (names_more {c = d} {s = r} k) c s = more_names (names_are k d r)
 
--- what stands after a parameter: the bar, or further ones
+-- after a parameter: the `|`, or further parameters
 pub data Formals : List Token → List Span → List Token → Type 0 where
   formals_end : {r : Span} {ts : List Token} → Formals (token.Bar r ∷ ts) [] ts
   formals_more : {c : Span} {ts rest : List Token} {fs : List Span} → IsFormals ts fs rest → Formals (token.Comma c ∷ ts) fs rest
@@ -39,24 +39,24 @@ formals_are (formals_more k) s = more_formals k
 abbrev pub Then : Type 1
 Then = List Body → List Statement → List Token → Tree → Type 0
 
--- statements come, and then what follows them
+-- statements follow, and then k
 abbrev pub Between : Then → Then
 Between k bs ss ts t =
     (more : List Statement) × (rest : List Token) × (bs' : List Body) × IsStatements ts bs more rest bs' × k bs' (ss ++ more) rest t
 
--- a chain goes on and ends, and then come further statements
+-- the rest of a chain follows with its end, and then further statements and k
 abbrev pub After : Then → List Body → List Statement → Element → List Link → List Token → Tree → Type 0
 After k bs ss f ls ts t =
     (more : List Link) × (ts1 : List Token) × (rest : List Token) × (bs1 : List Body) × IsLinks ts bs more ts1 bs1 × IsEnd ts1 rest
     × Between k bs1 (ss ++ chain f (ls ++ more) ∷ []) rest t
 
--- a string may come for the names' class, and then the end
+-- a string may follow the class of names, then the end of the statement, and then k
 abbrev pub Listed : Then → List Body → List Statement → List Span → ClassReference → List Token → Tree → Type 0
 Listed k bs ss ns c ts t =
     (text : Option Span) × (ts1 : List Token) × (rest : List Token) × IsString ts text ts1 × IsEnd ts1 rest
     × Between k bs (ss ++ declaration ns c text ∷ []) rest t
 
--- a string may come for a head
+-- a string may follow a head, and then k
 abbrev pub Headed : (List Body → Element → List Token → Tree → Type 0) → List Body → Head → List Token → Tree → Type 0
 Headed k bs h ts t = (text : Option Span) × (rest : List Token) × IsString ts text rest × k bs (element h text) rest t
 
@@ -79,28 +79,28 @@ abbrev mutual
   Grown (start p ss) bs e ts t = After (Ends p) bs ss e [] ts t
   Grown (linked p ss f ls from to) bs e ts t = After (Ends p) bs ss f (ls ++ link from to e ∷ []) ts t
 
--- a statement comes
+-- a statement follows
 abbrev pub Stated : Place → List Body → List Statement → List Token → Tree → Type 0
 Stated p bs ss ts t =
     (st : Statement) × (rest : List Token) × (bs' : List Body) × IsStatement ts bs st rest bs' × Between (Ends p) bs' (ss ++ st ∷ []) rest t
 
--- a class comes
+-- a class follows
 abbrev pub Classed : Target → List Body → List Token → Tree → Type 0
 Classed g bs ts t = (c : ClassReference) × (rest : List Token) × (bs' : List Body) × IsClass ts bs c rest bs' × Classified g bs' c rest t
 
--- the end of a statement comes
+-- the end of a statement follows
 abbrev pub Ending : Place → List Body → List Statement → Statement → List Token → Tree → Type 0
 Ending p bs ss st ts t = (rest : List Token) × IsEnd ts rest × Between (Ends p) bs (ss ++ st ∷ []) rest t
 
--- the names' class comes, after further names or none
+-- further names, or none, follow and then their class
 abbrev pub Named : Place → List Body → List Statement → List Span → List Token → Tree → Type 0
 Named p bs ss ns ts t = (more : List Span) × (ts1 : List Token) × Names ts more ts1 × Classed (of_names (ns ++ more) p ss) bs ts1 t
 
--- an element comes
+-- an element follows
 abbrev pub Wanted : Context → List Body → List Token → Tree → Type 0
 Wanted cx bs ts t = (e : Element) × (rest : List Token) × (bs' : List Body) × IsElement ts bs e rest bs' × Grown cx bs' e rest t
 
--- an arrow comes, a port or none, and an element
+-- an arrow follows, then a port or none, and an element
 abbrev pub Arrowed : Place → List Body → List Statement → Element → List Link → Option WrittenPort → List Token → Tree → Type 0
 Arrowed p bs ss f ls from ts t =
     (s : Span) × (ts1 : List Token) × (ts2 : List Token) × (to : Option WrittenPort) × (ts ≡ token.Arrow s ∷ ts1) × IsPort ts1 to ts2
@@ -110,7 +110,7 @@ abbrev pub Ported : Place → List Body → List Statement → Element → List 
 Ported p bs ss f ls out q ts t = Arrowed p bs ss f ls q ts t
 Ported p bs ss f ls (into from) q ts t = Wanted (linked p ss f ls from q) bs ts t
 
--- the tokens complete what is open to a text with this tree
+-- the tokens complete what is open in the state to a text with this tree
 abbrev pub Completes : State → List Token → Tree → Type 0
 Completes (between bs p ss) ts t = Between (Ends p) bs ss ts t
 Completes (statement_wanted bs p ss) ts t = Stated p bs ss ts t
@@ -141,7 +141,7 @@ Completes (close_wanted bs p ss f ls side a n) ts t =
     (b : Span) × (rest : List Token) × (ts ≡ token.CloseBracket b ∷ rest) × Ported p bs ss f ls side (Some (written_port n a b)) rest t
 Completes (arrow_wanted bs p ss f ls q) ts t = Arrowed p bs ss f ls q ts t
 
--- what comes after a token completes a text with it before
+-- the tokens complete the state, if there is one
 abbrev pub Leads : Option State → List Token → Tree → Type 0
 Leads None ts t = ⊥
 Leads (Some s) ts t = Completes s ts t
@@ -163,12 +163,12 @@ from_ported : (bs : List Body) (p : Place) (ss : List Statement) (f : Element) (
 from_ported bs p ss f ls out q ts t h = h
 from_ported bs p ss f ls (into from) q ts t h = h
 
--- a brace opens a body
+-- a brace that opens a body
 opened : (bs : List Body) (a : Span) (u : Use) (ts : List Token) (t : Tree) → Completes (body_opened bs a u) ts t → (n : ℕ) × (rest : List Token) × (bs' : List Body) × IsBody (token.Open a ∷ ts) bs n rest bs' × Used u bs' n rest t
 opened bs a u ts t (fs, ts1, h, (more, ts2, bs', r, (b, rest, e, g))) =
     (length bs', rest, bs' ++ body a b fs more ∷ [], braces h (rw e at r), g)
 
--- an element begins with a word or a brace
+-- an element that begins with a word or a brace
 begun_word : (bs : List Body) (cx : Context) (s : Span) (ts : List Token) (t : Tree) → Completes (word_read bs cx s) ts t → Wanted cx bs (token.Word s ∷ ts) t
 begun_word bs cx s ts t (h, rest, bs', r, (text, rest', q, g)) = (element h text, rest', bs', an_element r q, g)
 
@@ -192,11 +192,11 @@ classed_completes bs g tok ts t l = elim (classed_by bs g tok) [
   | inr (inr e) ↦ absurd (rw e at l)
 ]
 
--- a statement is a chain
+-- a statement that is a chain
 chain_first : (bs : List Body) (p : Place) (ss : List Statement) (ts : List Token) (t : Tree) → Wanted (start p ss) bs ts t → Stated p bs ss ts t
 chain_first bs p ss ts t (e, rest, bs', r, (more, ts1, rest2, bs1, rs, end, k)) = (chain e more, rest2, bs1, chained r rs end, k)
 
--- a statement is a definition
+-- a statement that is a definition
 define_brace : (bs : List Body) (p : Place) (ss : List Statement) (s a : Span) (ts : List Token) (t : Tree) → (n : ℕ) × (rest : List Token) × (bs' : List Body) × IsBody (token.Open a ∷ ts) bs n rest bs' × Used (as_definition s p ss) bs' n rest t → Completes (define_named bs p ss s) (token.Open a ∷ ts) t
 define_brace bs p ss s a ts t (n, rest, bs', r, k) = λ e. (a_definition s n, rest, bs', definition r, k)
 
@@ -216,7 +216,7 @@ defined_completes bs p ss tok ts t l = elim (defined_by bs p ss tok) [
   | inr e ↦ absurd (rw e at l)
 ]
 
--- a statement is a requirement
+-- a statement that is a requirement
 require_completes : (bs : List Body) (p : Place) (ss : List Statement) (k : Span) (ts : List Token) (t : Tree) → Completes (required bs p ss) ts t → Stated p bs ss (token.Require k ∷ ts) t
 require_completes bs p ss k ts t (text, rest, q, g) = (a_requirement text, rest, bs, requirement q, g)
 
@@ -231,7 +231,7 @@ opening_completes bs p ss tok ts t l = elim (opening_by bs p ss tok) [
   | inr (inr (inr e)) ↦ chain_first bs p ss _ t (begun_completes bs (start p ss) tok ts t (rw e at l))
 ]
 
--- statements begin with one
+-- statements that begin with a statement
 stated_first : (bs : List Body) (p : Place) (ss : List Statement) (ts : List Token) (t : Tree) → Stated p bs ss ts t → Completes (between bs p ss) ts t
 stated_first bs p ss ts t (st, rest, bs', r, (more, rest2, bs2, q, k)) = (st ∷ more, rest2, bs2, stated r q, rw append_assoc at k)
 
@@ -256,7 +256,7 @@ required_completes bs p ss tok ts t l = elim (required_by bs p ss tok) [
   | inr e ↦ (None, tok ∷ ts, no_string, stated_completes bs p _ tok ts t (rw e at l))
 ]
 
--- what is open in a body
+-- the states inside a body
 
 unfolded_formal : (bs : List Body) (a : Span) (u : Use) (s : Span) (ts : List Token) (t : Tree) → Completes (formal_read bs a u (s ∷ [])) ts t → Completes (body_opened bs a u) (token.Formal s ∷ ts) t
 unfolded_formal bs a u s ts t (more, rest, r, k) = (s ∷ more, rest, header (formals_are r s), k)
@@ -289,7 +289,7 @@ formal_on_completes bs a u fs tok ts t l = elim (formal_on_by bs a u fs tok) [
   | inr (inr e) ↦ absurd (rw e at l)
 ]
 
--- what is open in a declaration
+-- the states inside a declaration
 
 over_semicolon : (bs : List Body) (p : Place) (ss : List Statement) (st : Statement) (s : Span) (ts : List Token) (t : Tree) → Completes (between bs p (ss ++ st ∷ [])) ts t → Ending p bs ss st (token.Semicolon s ∷ ts) t
 over_semicolon bs p ss st s ts t k = (ts, semicolon, k)
@@ -332,7 +332,7 @@ names_complete bs p ss ns tok ts t l = elim (names_by bs p ss ns tok) [
   | inr (inr e) ↦ absurd (rw e at l)
 ]
 
--- what is open in a chain
+-- the states inside a chain
 
 arrowed_into : (bs : List Body) (p : Place) (ss : List Statement) (f : Element) (ls : List Link) (q : Option WrittenPort) (s : Span) (ts : List Token) (t : Tree) → Completes (port_wanted bs p ss f ls (into q)) ts t → Arrowed p bs ss f ls q (token.Arrow s ∷ ts) t
 arrowed_into bs p ss f ls q s ts t (to, rest, k, g) = (s, ts, rest, to, refl, k, g)
@@ -365,7 +365,7 @@ bracketed_completes bs p ss f ls side a n tok ts t l = elim (bracketed_by bs p s
   | inr e ↦ absurd (rw e at l)
 ]
 
--- after an element comes an arrow
+-- an arrow after an element
 joined_after : (bs : List Body) (p : Place) (ss : List Statement) (f : Element) (ls : List Link) (ts : List Token) (t : Tree) → Completes (port_wanted bs p ss f ls out) ts t → After (Ends p) bs ss f ls ts t
 joined_after bs p ss f ls ts t (from, ts0, k, (s, ts1, ts2, to, q, m, (e, rest, bs', r, (more, ts3, rest2, bs1, rs, end, g)))) =
     (link from to e ∷ more, ts3, rest2, bs1, more_links (rw q at k) m r rs, end, rw append_assoc at g)
@@ -393,7 +393,7 @@ headed_completes bs cx h tok ts t l = elim (headed_by bs cx h tok) [
   | inr e ↦ (None, tok ∷ ts, no_string, grown_completes bs cx _ tok ts t (rw e at l))
 ]
 
--- a name is declared
+-- a name that is declared
 worded_declared : (bs : List Body) (cx : Context) (s d : Span) (ts : List Token) (t : Tree) → Classed (of_head s cx) bs ts t → Completes (word_read bs cx s) (token.DoubleColon d ∷ ts) t
 worded_declared bs cx s d ts t (c, rest, bs', r, k) = (head.Declared s c, rest, bs', declared r, k)
 
@@ -403,7 +403,7 @@ worded_completes bs cx s tok ts t l = elim (worded_by bs cx s tok) [
   | inr e ↦ (head.Word s, tok ∷ ts, bs, word, headed_completes bs cx _ tok ts t (rw e at l))
 ]
 
--- a name is the first of several
+-- a name that is the first of several
 firsted_comma : (bs : List Body) (p : Place) (ss : List Statement) (s c : Span) (ts : List Token) (t : Tree) → Completes (name_wanted bs p ss (s ∷ [])) ts t → Stated p bs ss (token.Word s ∷ token.Comma c ∷ ts) t
 firsted_comma bs p ss s c ts t (s', rest, e, (more, ts1, r, (cl, ts2, bs', rc, (text, ts3, rest2, q, end, k)))) =
     (declaration (s ∷ s' ∷ more) cl text, rest2, bs', rw e (declarations (names_are r c s') rc q end), k)
@@ -438,7 +438,7 @@ step_completes (number_wanted bs p ss f ls side a) tok ts t l = numbered_complet
 step_completes (close_wanted bs p ss f ls side a n) tok ts t l = bracketed_completes bs p ss f ls side a n tok ts t l
 step_completes (arrow_wanted bs p ss f ls q) tok ts t l = arrowed_completes bs p ss f ls q tok ts t l
 
--- the end of the tokens
+-- the states in which the tokens may end
 
 ended_completes : (bs : List Body) (p : Place) (ss : List Statement) (t : Tree) → tree_at_end bs p ss ≡ Some t → Completes (between bs p ss) [] t
 ended_completes bs top ss t e = ([], [], bs, no_more, rw append-nil (refl, cc))

@@ -1,4 +1,4 @@
--- The machine accepts the texts of the grammar, with their trees, and no others.
+-- The machine accepts exactly the texts of the grammar, with their trees.
 use Rattle.std.proofs.Common.{◌≡◌, List, [], ◌∷◌, ◌++◌, Option, Some, None, refl, sym, ap, subst, append_assoc}
 use Rattle.std.proofs.lemmas.List.{append-nil}
 use Rattle.click_text.specs.declared.syntax.Token.{Token}
@@ -51,7 +51,7 @@ begins_none front tok s e n (more, t, r) =
     let v = run_append front (tok ∷ more) initial s e in
     cc
 
--- the end, where the machine refuses it, ends no text
+-- if the machine refuses the end, the tokens are no text
 pub ends_none : (front : List Token) (s : State) → advance initial front ≡ Some s → finish s ≡ None → (t : Tree) → IsText front t → ⊥
 unfolding run
 ends_none front s e n t r =

@@ -1,4 +1,5 @@
--- From the grammar to the machine: what the grammar reads, the machine runs through, with the same tree.
+-- From the grammar to the machine: the machine runs through what the grammar describes, with the
+-- same tree.
 use Rattle.std.proofs.Common.{inl, inr, ◌≡◌, ℕ, List, [], ◌∷◌, ◌++◌, Option, Some, None, refl, sym, ◌∙◌, append_assoc}
 use Rattle.std.proofs.lemmas.List.{append-nil}
 use Rattle.click_text.specs.declared.syntax.Span.{Span}
@@ -16,7 +17,7 @@ use Rattle.click_text.specs.Grammar.{element, link, chain, declaration, Tree, Is
 use Rattle.click_text.specs.kept.ParserStates.{Place, top, inside, Use, as_element, as_class, as_definition, Target, of_head, of_names, Context, start, linked, Side, out, into, State, between, statement_wanted, first_read, name_read, listed_read, define_named, required, ending, body_opened, formal_wanted, element_wanted, word_read, class_wanted, head_read, after, port_wanted, element_read, classified, body_read, ported, past_port, beyond_element, a_synonym, a_requirement, step, tree_at_element, finish, run}
 use Rattle.click_text.proofs.OfParser.StateTokens.{headed_by, worded_by, firsted_by, listed_by, required_by, unfolded_by}
 
--- no such token comes
+-- the next token is not of this kind
 abbrev NoClass : List Token → Type 0
 NoClass ts = (d : Span) (rest : List Token) → ts ≡ token.DoubleColon d ∷ rest → ⊥
 
@@ -46,7 +47,7 @@ end_follows semicolon = λ s r e. cc
 end_follows before_close = λ s r e. cc
 end_follows at_end = λ s r e. cc
 
--- what stands after an element is no class, no string and no comma
+-- after an element comes no `::`, no string and no comma
 follows : {ts ts' rest : List Token} {bs bs' : List Body} {ls : List Link} → IsLinks ts bs ls ts' bs' → IsEnd ts' rest → NoClass ts × NoString ts × NoComma ts
 follows no_links semicolon = (λ d r e. cc, λ s r e. cc, λ s r e. cc)
 follows no_links before_close = (λ d r e. cc, λ s r e. cc, λ s r e. cc)
@@ -54,7 +55,7 @@ follows no_links at_end = (λ d r e. cc, λ s r e. cc, λ s r e. cc)
 follows (more_links no_port q r rs) e = (λ d r e. cc, λ s r e. cc, λ s r e. cc)
 follows (more_links bracketed q r rs) e = (λ d r e. cc, λ s r e. cc, λ s r e. cc)
 
--- what stands after a head is no class
+-- after a head comes no `::`
 headed_follows : {ts rest : List Token} {text : Option Span} → IsString ts text rest → NoClass rest → NoClass ts
 headed_follows no_string h = h
 headed_follows string h = λ d r e. cc
@@ -63,7 +64,7 @@ headed_no_comma : {ts rest : List Token} {text : Option Span} → IsString ts te
 headed_no_comma no_string h = h
 headed_no_comma string h = λ d r e. cc
 
--- what a statement begins with is no string and no parameter
+-- a statement begins with neither a string nor a parameter
 statement_first : {ts rest : List Token} {bs bs' : List Body} {st : Statement} → IsStatement ts bs st rest bs' → NoString ts × NoFormal ts
 statement_first (chained (an_element word q) rs end) = (λ s r e. cc, λ s r e. cc)
 statement_first (chained (an_element (declared c) q) rs end) = (λ s r e. cc, λ s r e. cc)
@@ -83,13 +84,13 @@ no_string_first no_more k = k
 no_string_first (empty r) k = λ s r e. cc
 no_string_first (stated r q) k = (statement_first r).0
 
--- a word that isn't declared
+-- a word that is not declared
 word_runs : (ts : List Token) (bs : List Body) (cx : Context) (s : Span) → NoClass ts → run (word_read bs cx s) ts ≡ run (head_read bs cx (head.Word s)) ts
 unfolding run
 word_runs [] bs cx s h = refl
 word_runs (tok ∷ ts) bs cx s h = elim (worded_by bs cx s tok) [ inl w ↦ absurd (h w.0 ts (rw (w.1) refl)) | inr e ↦ rw e refl ]
 
--- a first word that is no first name
+-- a first word that is not the first of several names
 first_runs : (ts : List Token) (bs : List Body) (p : Place) (ss : List Statement) (s : Span) → NoComma ts → run (first_read bs p ss s) ts ≡ run (word_read bs (start p ss) s) ts
 unfolding run
 first_runs [] bs p ss s h = refl
@@ -103,7 +104,7 @@ pub finish_grown : (bs : List Body) (cx : Context) (e : Element) → finish (ele
 finish_grown bs (start p ss) e = refl
 finish_grown bs (linked p ss f ls from to) e = refl
 
--- where no port comes
+-- no port comes
 pub step_ported : (bs : List Body) (p : Place) (ss : List Statement) (f : Element) (ls : List Link) (side : Side) (q : Option WrittenPort) (tok : Token) → step (ported bs p ss f ls side q) tok ≡ past_port bs p ss f ls side q tok
 step_ported bs p ss f ls out q tok = refl
 step_ported bs p ss f ls (into from) q tok = refl
@@ -112,7 +113,7 @@ pub finish_ported : (bs : List Body) (p : Place) (ss : List Statement) (f : Elem
 finish_ported bs p ss f ls out q = refl
 finish_ported bs p ss f ls (into from) q = refl
 
--- a head with no string
+-- a head without a string
 bare_runs : (ts : List Token) (bs : List Body) (cx : Context) (h : Head) → NoString ts → run (head_read bs cx h) ts ≡ run (element_read bs cx (element h None)) ts
 unfolding run
 bare_runs [] bs cx h k = sym (finish_grown bs cx (element h None))
@@ -123,7 +124,7 @@ unfolding run
 string_runs (no_string {ts = ts}) k bs cx h = bare_runs ts bs cx h k
 string_runs string k bs cx h = refl
 
--- names with no string
+-- names without a string
 bare_listed : (ts : List Token) (bs : List Body) (p : Place) (ss : List Statement) (ns : List Span) (c : ClassReference) → NoString ts → run (listed_read bs p ss ns c) ts ≡ run (ending bs p ss (declaration ns c None)) ts
 unfolding run
 bare_listed [] bs p ss ns c k = refl
@@ -134,7 +135,7 @@ unfolding run
 listed_runs (no_string {ts = ts}) k bs p ss ns c = bare_listed ts bs p ss ns c k
 listed_runs string k bs p ss ns c = refl
 
--- a requirement with no string
+-- a requirement without a string
 bare_required : (ts : List Token) (bs : List Body) (p : Place) (ss : List Statement) → NoString ts → run (required bs p ss) ts ≡ run (between bs p (ss ++ a_requirement None ∷ [])) ts
 unfolding run
 bare_required [] bs p ss k = refl
@@ -145,7 +146,7 @@ unfolding run
 required_runs (no_string {ts = ts}) k bs p ss = bare_required ts bs p ss k
 required_runs string k bs p ss = refl
 
--- a body with no parameters
+-- a body without parameters
 bare_body : (ts : List Token) (bs : List Body) (a : Span) (u : Use) → NoFormal ts → run (body_opened bs a u) ts ≡ run (between bs (inside a [] u) []) ts
 unfolding run
 bare_body [] bs a u k = refl
@@ -156,7 +157,7 @@ unfolding run
 formals_run last_formal bs a u fs = refl
 formals_run (more_formals {s = s} r) bs a u fs = rw append_assoc at (formals_run r bs a u (fs ++ s ∷ []))
 
--- the first parameter is read as a further one
+-- the first parameter of a body is read like a further one
 formals_first : {ts rest : List Token} {more : List Span} → IsFormals ts more rest → (bs : List Body) (a : Span) (u : Use) → run (body_opened bs a u) ts ≡ run (formal_wanted bs a u []) ts
 unfolding run
 formals_first last_formal bs a u = refl
@@ -171,20 +172,20 @@ unfolding run
 names_run last_name bs p ss ns = refl
 names_run (more_names {s = s} r) bs p ss ns = rw append_assoc at (names_run r bs p ss (ns ++ s ∷ []))
 
--- the first name is read as a first word
+-- the first name of a declaration is read as the first word of a statement
 names_first : {ts rest : List Token} {more : List Span} → IsNames ts more rest → (bs : List Body) (p : Place) (ss : List Statement) (s : Span) → run (first_read bs p ss s) ts ≡ run (name_read bs p ss (s ∷ [])) ts
 unfolding run
 names_first last_name bs p ss s = refl
 names_first (more_names r) bs p ss s = refl
 
--- a chain begins as its first element does
+-- a chain begins like its first element
 chain_first : {ts rest : List Token} {bs bs' : List Body} {e : Element} → IsElement ts bs e rest bs' → NoComma rest → (p : Place) (ss : List Statement) → run (statement_wanted bs p ss) ts ≡ run (element_wanted bs (start p ss)) ts
 unfolding run
 chain_first (an_element (word {s = s} {ts = ts} {bs = bs}) q) k p ss = first_runs ts bs p ss s (headed_no_comma q k)
 chain_first (an_element (declared r) q) k p ss = refl
 chain_first (an_element (compound (braces h r)) q) k p ss = refl
 
--- where a statement may begin, one begins as where one must
+-- if a statement begins, a state in which one may begin goes on like a state in which one must
 statement_begins : {ts rest : List Token} {bs bs' : List Body} {st : Statement} → IsStatement ts bs st rest bs' → (p : Place) (ss : List Statement) → run (between bs p ss) ts ≡ run (statement_wanted bs p ss) ts
 unfolding run
 statement_begins (chained (an_element word q) rs end) p ss = refl
@@ -209,7 +210,7 @@ into_runs no_port (an_element (declared r) k) p ss f ls from = refl
 into_runs no_port (an_element (compound (braces h r)) k) p ss f ls from = refl
 into_runs bracketed r p ss f ls from = refl
 
--- a brace that a state takes
+-- an opening brace that a state takes
 brace_runs : (s : State) (a : Span) (ts : List Token) (s' : State) → step s (token.Open a) ≡ Some s' → run s (token.Open a ∷ ts) ≡ run s' ts
 unfolding run
 brace_runs s a ts s' e = rw e refl

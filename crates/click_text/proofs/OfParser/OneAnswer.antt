@@ -1,4 +1,4 @@
--- What is spelled so is read.
+-- A text spells at most one configuration, has at most one first fault, and never both.
 use Rattle.std.proofs.Common.{◌≡◌, ℕ, List, length, Result, Ok, Err, IfOk, IfErr, inl, inr, refl, sym, ◌∙◌, ap}
 use Rattle.click_text.specs.declared.syntax.Token.{Token}
 use Rattle.click_text.specs.declared.syntax.Statement.{Statement}
@@ -32,19 +32,19 @@ given (Err f) n text tokens e config r t k (inr m) s =
     let i = reads_once r s.pieces in
     absurd (no_fault n s.tokens f (tree_of config) (rw (i.0, i.1) at m) s.tree s.nests)
 
--- a text spells one configuration
+-- a text spells at most one configuration
 pub spells_once : (text : List ℕ) (c d : Config) → Spells text c → Spells text d → c ≡ d
 spells_once text c d s t =
     let i = reads_once s.pieces t.pieces in
     same_config c d (s.copy ∙ sym t.copy) (one_tree t.tokens (tree_of c) (tree_of d) (rw (i.0) at s.tree) t.tree)
 
--- a text has one first fault
+-- a text has at most one first fault
 pub faults_once : (text : List ℕ) (f g : TextFault) → IsTextFault text f → IsTextFault text g → f ≡ g
 faults_once text f g a b =
     let i = reads_once a.pieces b.pieces in
     one_fault (length text) b.tokens b.ending f g (rw (i.0, i.1) at a.first) b.first
 
--- a text that spells a configuration has no fault
+-- a text that spells a configuration has no first fault
 pub spelled_has_no_fault : (text : List ℕ) (c : Config) (f : TextFault) → Spells text c → IsTextFault text f → ⊥
 spelled_has_no_fault text c f s a =
     let i = reads_once a.pieces s.pieces in

@@ -1,4 +1,4 @@
--- A list of tokens that ends so has one first fault at most.
+-- A list of tokens with an ending has at most one first fault.
 use Rattle.std.proofs.Common.{◌≡◌, ℕ, List, [], ◌∷◌, ◌++◌, Option, Some, None, refl, sym, ◌∙◌, arith, append_assoc}
 use Rattle.std.proofs.lemmas.List.{append-nil}
 use Rattle.std.proofs.lemmas.Bool.Decides.{nat_tests}
@@ -14,7 +14,7 @@ use Rattle.click_text.specs.kept.ParserStates.{State, step, finish, bind, run, a
 use Rattle.click_text.proofs.OfParser.GrammarRuns.{runs_to}
 use Rattle.click_text.proofs.OfParser.GrammarEquality.{initial, begins_text, ends_text, begins_none}
 
--- how many braces are open after these tokens
+-- the number of open braces after these tokens
 depth_past : ℕ → List Token → ℕ
 depth_past n [] = n
 depth_past n (x ∷ front) = depth_past (braces_after (brace x) n) front
@@ -34,7 +34,7 @@ unfolding depth_past
 nests_append [] rest n h k = k
 nests_append (x ∷ front) rest n h k = (h.0, nests_append front rest (braces_after (brace x) n) h.1 k)
 
--- a state that is there takes the first of these tokens
+-- if there is a state that goes on, it takes these tokens
 taken_first : (o : Option State) (front : List Token) (s' : State) → bind o (λ s. advance s front) ≡ Some s' → (r : State) × (o ≡ Some r) × (advance r front ≡ Some s')
 taken_first None front s' e = cc
 taken_first (Some r) front s' e = (r, refl, e)
@@ -46,7 +46,7 @@ advance_append (x ∷ front) more s s' e =
     let r = taken_first (step s x) front s' e in
     rw (r.1) (advance_append front more r.0 s' r.2)
 
--- the outcome goes by what stands after tokens that are taken
+-- the outcome depends only on what follows the tokens that were taken
 outcome_append : (front more : List Token) (n : ℕ) (s s' : State) → advance s front ≡ Some s' → NestsWithin n front → outcome n s (front ++ more) ≡ outcome (depth_past n front) s' more
 unfolding advance outcome depth_past
 outcome_append [] more n s s' e h = let q : s ≡ s' = cc in rw q refl
@@ -54,7 +54,7 @@ outcome_append (x ∷ front) more n s s' e h =
     let r = taken_first (step s x) front s' e in
     rw (r.1, room_after (brace x) n h.0) (outcome_append front more (braces_after (brace x) n) r.0 s' r.2 h.1)
 
--- what is run to a tree is taken
+-- a state that runs to a tree takes each prefix of the tokens
 run_first : (o : Option State) (front more : List Token) (t : Tree) → ((r : State) → run r (front ++ more) ≡ Some t → (s' : State) × (advance r front ≡ Some s')) → bind o (λ s. run s (front ++ more)) ≡ Some t → (s' : State) × (bind o (λ s. advance s front) ≡ Some s')
 run_first None front more t ih e = cc
 run_first (Some r) front more t ih e = ih r e
@@ -70,7 +70,7 @@ begun_taken front (more, t, r) = run_taken front more initial t (runs_to r)
 begins_less : (front : List Token) (tok : Token) → BeginsText (front ++ tok ∷ []) → BeginsText front
 begins_less front tok (more, t, r) = (tok ∷ more, t, rw append_assoc at r)
 
--- the fault that an outcome shows
+-- the fault of an outcome
 abbrev fault_of : ℕ → Ending → Outcome → TextFault
 fault_of n e (Accepted t) = end_fault n e
 fault_of n e (Refused []) = end_fault n e
@@ -91,7 +91,7 @@ some_taken : (front : List Token) (tok : Token) (s : State) → advance initial 
 some_taken front tok s a k None e = absurd (begins_none front tok s a e k)
 some_taken front tok s a k (Some r) e = (r, e)
 
--- a brace too many leaves no room
+-- a brace that is one too many has no room
 no_room : (front : List Token) (tok : Token) → NestsWithin 0 front → (NestsWithin 0 (front ++ tok ∷ []) → ⊥) → (m : Option ℕ) → open_after (depth_past 0 front) tok ≡ m → open_after (depth_past 0 front) tok ≡ None
 no_room front tok h k None e = e
 no_room front tok h k (Some m) e = absurd (k (nests_append front (tok ∷ []) 0 h (room_taken (brace tok) (depth_past 0 front) m e, tt)))
@@ -125,6 +125,6 @@ fault_is n ts e f (no_piece n' ts' f' b h) =
     let o : outcome 0 initial (ts ++ []) ≡ outcome (depth_past 0 ts) a.0 [] = outcome_append ts [] 0 initial a.0 a.1 h in
     rw (rw append-nil at o) (end_of n (ending.Stuck f) (finish a.0))
 
--- a list of tokens that ends so has one first fault at most
+-- a list of tokens with an ending has at most one first fault
 pub one_fault : (n : ℕ) (ts : List Token) (e : Ending) (f g : TextFault) → IsFaultAmong n ts e f → IsFaultAmong n ts e g → f ≡ g
 one_fault n ts e f g a b = fault_is n ts e f a ∙ sym (fault_is n ts e g b)

@@ -1,4 +1,4 @@
--- What is open in a state can be completed.
+-- What is open in a state can always be completed.
 use Rattle.std.proofs.Common.{ℕ, List, [], ◌∷◌, ◌++◌, length, Option, Some, None, refl}
 use Rattle.std.proofs.lemmas.List.{append-nil}
 use Rattle.click_text.specs.declared.syntax.Span.{Span}
@@ -68,7 +68,7 @@ ported_live p bs ss f ls out q =
     (token.Arrow somewhere ∷ g.0, g.1, (somewhere, g.0, g.0, None, refl, no_port, g.2))
 ported_live p bs ss f ls (into from) q = wanted_live (linked p ss f ls from q) bs
 
--- statements may end where their place does
+-- statements may end if their place may
 stated_live : (p : Place) (bs : List Body) (ss : List Statement) → (ts : List Token) × (t : Tree) × Between (Ends p) bs ss ts t
 stated_live p bs ss = between_live (Ends p) bs ss (ends_live p bs ss)
 

@@ -1,4 +1,4 @@
--- The machine's steps, as the parser cites them.
+-- The steps of the machine, in the form that the parser's proofs cite.
 use Rattle.std.proofs.Common.{inl, inr, ◌≡◌, ℕ, ◌+◌, ◌-◌, ◌<◌, ◌≤◌, List, [], ◌∷◌, ◌++◌, length, drop, Some, None, refl, ◌∙◌, arith}
 use Rattle.std.proofs.lemmas.Bool.Decides.{nat_tests}
 use Rattle.click_text.specs.declared.syntax.Span.{Span}
@@ -22,12 +22,12 @@ pub refused : (n : ℕ) (s : State) (tok : Token) (ts rest : List Token) → ts 
 unfolding outcome
 refused n s tok ts rest e p = rw (e, p) refl
 
--- the end
+-- the end of the tokens
 pub at_end : (n : ℕ) (s : State) (ts : List Token) → ts ≡ [] → outcome n s ts ≡ accepted (finish s)
 unfolding outcome
 at_end n s ts e = rw e refl
 
--- the end, where a text may not end
+-- the end of the tokens, in a state that may not end
 pub refused_at_end : (n : ℕ) (s : State) (ts : List Token) → ts ≡ [] → finish s ≡ None → outcome n s ts ≡ Refused ts
 unfolding outcome
 refused_at_end n s ts e p = rw (e, p) refl
@@ -46,12 +46,12 @@ stops_from stop.Memory before mid rest e h = h
 stops_from stop.Unexpected before mid rest e h = e ∙ h
 stops_from stop.TooDeep before mid rest e h = e ∙ h
 
--- a brace that is one too many
+-- an opening brace that is one too many
 pub too_deep : (n : ℕ) (s s' : State) (a : Span) (ts rest : List Token) → ts ≡ token.Open a ∷ rest → step s (token.Open a) ≡ Some s' → 32 ≤ n → outcome n s ts ≡ Deep ts
 unfolding outcome
 too_deep n s s' a ts rest e p h = let q : open_after n (token.Open a) ≡ None = grind (arith, nat_tests) in rw (e, p, q) refl
 
--- a brace that isn't
+-- an opening brace within the limit
 pub opened : (n : ℕ) (s s' : State) (a : Span) (ts rest : List Token) → ts ≡ token.Open a ∷ rest → step s (token.Open a) ≡ Some s' → n < 32 → outcome n s ts ≡ outcome (n + 1) s' rest
 unfolding outcome
 opened n s s' a ts rest e p h = let q : open_after n (token.Open a) ≡ Some (n + 1) = grind (arith, nat_tests) in rw (e, p, q) refl
@@ -61,12 +61,12 @@ pub closed_at : (n : ℕ) (bs : List Body) (a b : Span) (fs : List Span) (u : Us
 unfolding outcome
 closed_at n bs a b fs u ss ts rest e = let q : n + 1 - 1 ≡ n = omega arith in rw (e, q) refl
 
--- names of a declaration, where a statement must begin
+-- several names, if a statement must begin
 pub lists : (n : ℕ) (bs : List Body) (p : Place) (ss : List Statement) (s : Span) (ts : List Token) → Lists ts s → outcome n (statement_wanted bs p ss) ts ≡ outcome n (name_read bs p ss (s ∷ [])) (drop 1 ts)
 unfolding outcome
 lists n bs p ss s ts (c, rest, e) = rw e refl
 
--- a first word with no comma after it
+-- a first word without a comma after it
 first_alone : (n : ℕ) (bs : List Body) (p : Place) (ss : List Statement) (s : Span) (ts : List Token) → (Lists (token.Word s ∷ ts) s → ⊥) → outcome n (first_read bs p ss s) ts ≡ outcome n (word_read bs (start p ss) s) ts
 unfolding outcome
 first_alone n bs p ss s [] h = refl
@@ -76,7 +76,7 @@ word_first : (n : ℕ) (bs : List Body) (p : Place) (ss : List Statement) (s : S
 unfolding outcome
 word_first n bs p ss s ts h = first_alone n bs p ss s ts h
 
--- a statement that begins neither so nor with a keyword is a chain
+-- a statement that begins neither with several names nor with a keyword is a chain
 pub chain_first : (n : ℕ) (bs : List Body) (p : Place) (ss : List Statement) (tok : Token) (ts rest : List Token) → ts ≡ tok ∷ rest → ((s : Span) → Lists ts s → ⊥) → (IsElementclass tok → ⊥) → (IsRequire tok → ⊥) → outcome n (statement_wanted bs p ss) ts ≡ outcome n (element_wanted bs (start p ss)) ts
 chain_first n bs p ss tok ts rest e h k m = elim (opening_by bs p ss tok) [
   | inl w ↦ rw (e, w.1) (word_first n bs p ss w.0 rest (rw (e, w.1) at (h w.0)))

@@ -1,4 +1,4 @@
--- What the outcome of a run says of the grammar.
+-- What the outcome of a run says in terms of the grammar.
 use Rattle.std.proofs.Common.{◌≡◌, ℕ, ◌+◌, List, [], ◌∷◌, ◌++◌, Option, Some, None, Bool, true, false, refl, ◌∙◌, ap, arith, nat_lt, cond, append_assoc}
 use Rattle.std.proofs.lemmas.List.{append-nil}
 use borrow.Author.Tests.{ltb-true}
@@ -14,7 +14,7 @@ use Rattle.click_text.specs.kept.ParserStates.{State, step, finish, run, advance
 use Rattle.click_text.proofs.OfParser.GrammarRuns.{runs_to}
 use Rattle.click_text.proofs.OfParser.GrammarEquality.{initial, begins_text, ends_text, begins_none, ends_none, run_append}
 
--- where a state takes nothing more
+-- the state does not take the next token, or the end
 abbrev pub StuckAt : State → List Token → Type 0
 StuckAt s [] = finish s ≡ None
 StuckAt s (tok ∷ more) = step s tok ≡ None
@@ -32,7 +32,7 @@ no_room : (b : Bool) (n : ℕ) → cond b (Some (n + 1)) None ≡ None → b ≡
 no_room true n e = cc
 no_room false n e = refl
 
--- a brace that isn't one too many
+-- a token that opens no brace too many
 has_room : (b : Brace) (n m : ℕ) → open_after_brace b n ≡ Some m → HasRoom b n × (braces_after b n ≡ m)
 has_room Opens n m e = let r = room (nat_lt n most_open) n m e in (ltb-true n most_open r.0, r.1)
 has_room Closes n m e = (tt, cc)
@@ -56,7 +56,7 @@ nests_front : (front more : List Token) (n : ℕ) → NestsWithin n (front ++ mo
 nests_front [] more n h = tt
 nests_front (x ∷ front) more n h = (h.0, nests_front front more (braces_after (brace x) n) h.1)
 
--- one token before
+-- one token before the run
 before : (n m : ℕ) (s s' : State) (x : Token) (ts : List Token) (o : Outcome) → step s x ≡ Some s' → open_after n x ≡ Some m → EndsAs m s' ts o → EndsAs n s (x ∷ ts) o
 unfolding advance
 before n m s s' x ts (Accepted t) e q (r, a, f, h) = (r, rw e a, f, nests_more n m x ts q h)
@@ -80,7 +80,7 @@ unfolding outcome
 ends_as [] n s = last n s (finish s) refl
 ends_as (x ∷ ts) n s = turn n s x ts (ends_as ts) (step s x) refl (open_after n x) refl
 
--- what an outcome from the beginning says
+-- the outcome of a run from the initial state
 
 accepted_by : (ts : List Token) (t : Tree) → EndsAs 0 initial ts (Accepted t) → IsText ts t × NestsWithin 0 ts
 accepted_by ts t (s, a, f, h) = (ends_text ts s t a f, h)
@@ -153,6 +153,6 @@ no_fault n ts f t (unexpected n' front more tok e b h k) r g = k (more, t, rw ap
 no_fault n ts f t (too_deep n' front more tok e b h k) r g = k (nests_front (front ++ tok ∷ []) more 0 (rw append_assoc g))
 no_fault n ts f t (unfinished n' ts' b h k) r g = k t r
 
--- a text has one tree
+-- a text has at most one tree
 pub one_tree : (ts : List Token) (t u : Tree) → IsText ts t → IsText ts u → t ≡ u
 one_tree ts t u r q = let a = runs_to r in let b = runs_to q in cc

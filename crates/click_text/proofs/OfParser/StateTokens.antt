@@ -59,12 +59,12 @@ IsRequire tok = (s : Span) × (tok ≡ token.Require s)
 abbrev pub IsNumber : Token → Type 0
 IsNumber tok = (n : ℕ) × (s : Span) × (tok ≡ token.Number (Some n) s)
 
--- what is left where the first is ruled out
+-- the second of two cases, if the first is excluded
 pub otherwise : {A B : Type 0} → A ⊎ B → (A → ⊥) → B
 otherwise (inl a) h = absurd (h a)
 otherwise (inr b) h = b
 
--- what is left where the first two are ruled out
+-- the third of three cases, if the first two are excluded
 pub neither : {A B C : Type 0} → A ⊎ B ⊎ C → (A → ⊥) → (B → ⊥) → C
 neither (inl a) h k = absurd (h a)
 neither (inr (inl b)) h k = absurd (k b)
@@ -87,12 +87,12 @@ pub arrowed_by : (bs : List Body) (p : Place) (ss : List Statement) (f : Element
 arrowed_by bs p ss f ls q (token.Arrow x) = inl (x, refl)
 arrowed_by bs p ss f ls q _ = inr refl
 
--- a port begins with a bracket
+-- a port, which begins with a bracket
 pub joined_by : (bs : List Body) (p : Place) (ss : List Statement) (f : Element) (ls : List Link) (side : Side) (tok : Token) → IsOpenBracket tok ⊎ (port_begun bs p ss f ls side tok ≡ past_port bs p ss f ls side None tok)
 joined_by bs p ss f ls side (token.OpenBracket x) = inl (x, refl)
 joined_by bs p ss f ls side _ = inr refl
 
--- a port's number
+-- the number of a port
 pub numbered_by : (bs : List Body) (p : Place) (ss : List Statement) (f : Element) (ls : List Link) (side : Side) (b : Span) (tok : Token) → IsNumber tok ⊎ (port_numbered bs p ss f ls side b tok ≡ None)
 numbered_by bs p ss f ls side b (token.Number (Some m) s) = inl (m, s, refl)
 numbered_by bs p ss f ls side b _ = inr refl
@@ -102,23 +102,23 @@ pub bracketed_by : (bs : List Body) (p : Place) (ss : List Statement) (f : Eleme
 bracketed_by bs p ss f ls side b n (token.CloseBracket x) = inl (x, refl)
 bracketed_by bs p ss f ls side b n _ = inr refl
 
--- after an element its chain ends, or an arrow comes
+-- after an element: the end of its chain, or an arrow
 pub beyond_by : (bs : List Body) (p : Place) (ss : List Statement) (f : Element) (ls : List Link) (tok : Token) → IsSemicolon tok ⊎ IsClose tok ⊎ (beyond bs p ss f ls tok ≡ port_begun bs p ss f ls out tok)
 beyond_by bs p ss f ls (token.Semicolon x) = inl (x, refl)
 beyond_by bs p ss f ls (token.Close x) = inr (inl (x, refl))
 beyond_by bs p ss f ls _ = inr (inr refl)
 
--- after a head a string, or what stands after an element
+-- after a head: a string, or what follows an element
 pub headed_by : (bs : List Body) (cx : Context) (h : Head) (tok : Token) → IsString tok ⊎ (headed bs cx h tok ≡ beyond_element bs cx (element h None) tok)
 headed_by bs cx h (token.String x) = inl (x, refl)
 headed_by bs cx h _ = inr refl
 
--- after a word its class, or what stands after a head
+-- after a word: `::`, or what follows a head
 pub worded_by : (bs : List Body) (cx : Context) (s : Span) (tok : Token) → IsDoubleColon tok ⊎ (worded bs cx s tok ≡ headed bs cx (head.Word s) tok)
 worded_by bs cx s (token.DoubleColon x) = inl (x, refl)
 worded_by bs cx s _ = inr refl
 
--- after a statement's first word a further name, or what stands after a word
+-- after the first word of a statement: a comma, or what follows a word
 pub firsted_by : (bs : List Body) (p : Place) (ss : List Statement) (s : Span) (tok : Token) → IsComma tok ⊎ (firsted bs p ss s tok ≡ worded bs (start p ss) s tok)
 firsted_by bs p ss s (token.Comma x) = inl (x, refl)
 firsted_by bs p ss s _ = inr refl
@@ -128,7 +128,7 @@ pub named_by : (bs : List Body) (p : Place) (ss : List Statement) (ns : List Spa
 named_by bs p ss ns (token.Word x) = inl (x, refl)
 named_by bs p ss ns _ = inr refl
 
--- after names a comma, or their class
+-- after names: a comma or `::`
 pub names_by : (bs : List Body) (p : Place) (ss : List Statement) (ns : List Span) (tok : Token) → IsComma tok ⊎ IsDoubleColon tok ⊎ (names_on bs p ss ns tok ≡ None)
 names_by bs p ss ns (token.DoubleColon x) = inr (inl (x, refl))
 names_by bs p ss ns (token.Comma x) = inl (x, refl)
@@ -140,7 +140,7 @@ over_by bs p ss st (token.Semicolon x) = inl (x, refl)
 over_by bs p ss st (token.Close x) = inr (inl (x, refl))
 over_by bs p ss st _ = inr (inr refl)
 
--- after the class of names a string, or the end
+-- after the class of names: a string, or the end of the statement
 pub listed_by : (bs : List Body) (p : Place) (ss : List Statement) (ns : List Span) (c : ClassReference) (tok : Token) → IsString tok ⊎ (class_listed bs p ss ns c tok ≡ statement_over bs p ss (declaration ns c None) tok)
 listed_by bs p ss ns c (token.String x) = inl (x, refl)
 listed_by bs p ss ns c _ = inr refl
@@ -150,7 +150,7 @@ pub defined_by : (bs : List Body) (p : Place) (ss : List Statement) (tok : Token
 defined_by bs p ss (token.Word x) = inl (x, refl)
 defined_by bs p ss _ = inr refl
 
--- what that name is for
+-- the class or body of a definition
 pub define_on_by : (bs : List Body) (p : Place) (ss : List Statement) (s : Span) (tok : Token) → IsWord tok ⊎ IsOpen tok ⊎ (define_on bs p ss s tok ≡ None)
 define_on_by bs p ss s (token.Word x) = inl (x, refl)
 define_on_by bs p ss s (token.Open x) = inr (inl (x, refl))
@@ -169,12 +169,12 @@ stated_by bs p ss (token.Semicolon x) = inl (x, refl)
 stated_by bs p ss (token.Close x) = inr (inl (x, refl))
 stated_by bs p ss _ = inr (inr refl)
 
--- after `require` its string, or further statements
+-- after `require`: its string, or further statements
 pub required_by : (bs : List Body) (p : Place) (ss : List Statement) (tok : Token) → IsString tok ⊎ (required_on bs p ss tok ≡ statement_next bs p (ss ++ a_requirement None ∷ []) tok)
 required_by bs p ss (token.String x) = inl (x, refl)
 required_by bs p ss _ = inr refl
 
--- after an open brace a parameter, or statements
+-- after an opening brace: a parameter, or statements
 pub unfolded_by : (bs : List Body) (a : Span) (u : Use) (tok : Token) → IsFormal tok ⊎ (unfolded bs a u tok ≡ statement_next bs (inside a [] u) [] tok)
 unfolded_by bs a u (token.Formal x) = inl (x, refl)
 unfolded_by bs a u _ = inr refl
@@ -184,7 +184,7 @@ pub formal_by : (bs : List Body) (a : Span) (u : Use) (fs : List Span) (tok : To
 formal_by bs a u fs (token.Formal x) = inl (x, refl)
 formal_by bs a u fs _ = inr refl
 
--- after a parameter a comma, or the bar
+-- after a parameter: a comma or the `|`
 pub formal_on_by : (bs : List Body) (a : Span) (u : Use) (fs : List Span) (tok : Token) → IsComma tok ⊎ IsBar tok ⊎ (formal_on bs a u fs tok ≡ None)
 formal_on_by bs a u fs (token.Comma x) = inl (x, refl)
 formal_on_by bs a u fs (token.Bar x) = inr (inl (x, refl))

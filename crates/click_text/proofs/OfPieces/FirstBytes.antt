@@ -1,4 +1,5 @@
--- The first two bytes of a piece say of what kind it is, but for the kinds that word bytes spell.
+-- The first two bytes of a piece determine its kind, except for the kinds that consist of word
+-- bytes.
 use Rattle.std.proofs.Common.{◌≡◌, ◌≢◌, ℕ, ◌<◌, List, [], ◌∷◌, ◌++◌, length, get_or, take, drop, true, false, ◌&&◌, eqb, Option, Some, None, refl, sym, arith}
 use Rattle.std.specs.Prelude.{if◌then◌else◌}
 use Rattle.std.specs.List.{list_all}
@@ -11,7 +12,7 @@ use Rattle.click_text.specs.declared.lexer.Piece.TheVariants as piece
 use Rattle.click_text.specs.kept.SingleBytePieces.{mark_of}
 use Rattle.click_text.specs.Pieces.{white, digit, word_byte, is_word, IsPiece, NoPiece}
 
--- `Word` for each kind that word bytes spell
+-- `Word` for each kind that consists of word bytes; any other kind unchanged
 abbrev pub family : Piece → Piece
 family piece.Number = piece.Word
 family piece.Elementclass = piece.Word
@@ -57,7 +58,7 @@ digits_word (b ∷ c ∷ p) h a =
     let y = and_parts (digit c) (list_all digit p) x.1 in
     rw (digit_word b x.0, digit_slash c y.0) (digits_word (c ∷ p) (omega arith) x.1)
 
--- each piece that word bytes spell has the form of a word
+-- each piece that consists of word bytes has the form of a word
 pub word_form : (k : Piece) (p : List ℕ) → family k ≡ piece.Word → IsPiece k p → is_word p ≡ true
 word_form piece.Word p f h = h.0
 word_form piece.Number p f h = digits_word p h.0 h.1
@@ -84,14 +85,14 @@ begins_append piece.Formal p q (r, e, a) = rw e refl
 begins_append piece.String p q (r, e, a) = rw e refl
 begins_append _ p q e = rw e refl
 
--- a text that a piece begins, begins as the piece does
+-- a text that begins with a piece begins with the same bytes as the piece
 pub begins_as : (k : Piece) (text : List ℕ) (m : ℕ) → IsPiece k (take m text) → begins text ≡ Some (family k)
 begins_as k text m h = let e = begins_append k (take m text) (drop m text) h in rw take-append-drop at e
 
 pub no_piece : (text : List ℕ) → begins text ≡ None → NoPiece text
 no_piece text n k m l h = let e = begins_as k text m h in cc
 
--- the family is the kind, but for words
+-- outside the family of words, the family is the kind
 pub alone : (k j : Piece) → family j ≡ k → k ≢ piece.Word → j ≡ k
 alone k piece.Number e n = absurd (n (sym e))
 alone k piece.Elementclass e n = absurd (n (sym e))

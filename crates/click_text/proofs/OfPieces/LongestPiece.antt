@@ -1,4 +1,4 @@
--- Which piece begins a text, and how long it is.
+-- The piece that begins a text, and its length.
 use Rattle.std.proofs.Common.{◌≡◌, ◌≢◌, ℕ, zero, suc, ◌+◌, ◌<◌, ◌≤◌, List, [], ◌∷◌, length, get_or, take, drop, Bool, true, false, eqb, Option, Some, None, refl, sym, ◌∙◌, ap, subst, arith, inl, inr, ◌⊎◌, length-take}
 use Rattle.std.specs.Prelude.{if◌then◌else◌, IfNone}
 use Rattle.std.specs.List.{list_all}
@@ -18,7 +18,8 @@ pub or_not : {T : Type 0} (found : Option T) (P : Type 0) → P → IfNone found
 or_not None P h = h
 or_not (Some x) P h = tt
 
--- a piece of a kind that the beginning names, where no longer one is of that kind
+-- a piece is the longest, if it has the kind that its first bytes determine and no longer one of
+-- that kind begins the text
 longest_of : (text : List ℕ) (k : Piece) (n : ℕ) → begins text ≡ Some k → k ≢ piece.Word → n ≤ length text → IsPiece k (take n text) → ((m : ℕ) → n < m → m ≤ length text → IsPiece k (take m text) → ⊥) → Longest text k n
 longest_of text k n b w l f g = record {
   within = l;
@@ -29,7 +30,7 @@ longest_of text k n b w l f g = record {
 none_of : (text : List ℕ) (k : Piece) → begins text ≡ Some k → k ≢ piece.Word → ((m : ℕ) → m ≤ length text → IsPiece k (take m text) → ⊥) → NoPiece text
 none_of text k b w g j m l p = g m l (kind_from k j text m b w p)
 
--- how long each piece of a kind is, where they all are
+-- the length of each piece of a kind, if they all have the same
 abbrev size_of : Piece → ℕ
 size_of piece.Word = 0
 size_of piece.Number = 0
@@ -70,7 +71,7 @@ as_two [] a b z e f = absurd (omega arith)
 as_two (x ∷ []) a b z e f = absurd (omega arith)
 as_two (x ∷ y ∷ r) a b z e f = rw (e, f) refl
 
--- white space and marks
+-- white space and pieces of one byte
 pub longest_blank : (text : List ℕ) → 0 < length text → white (get_or text 0 0) ≡ true → Longest text piece.Blank 1
 longest_blank [] z w = absurd (omega arith)
 longest_blank (x ∷ r) z w =
@@ -140,7 +141,7 @@ longest_word text k n w v l f g = record {
       false≢true (sym (g m h i) ∙ word_form j (take m text) d p);
 }
 
--- formals
+-- parameters
 formal_more : (r : List ℕ) (n m : ℕ) → (n < length r → name_byte (get_or r n 0) ≡ false) → n < m → m ≤ length r → IsPiece piece.Formal (36 ∷ take m r) → ⊥
 formal_more r n m g h l (q, e, (z, a)) =
     let d : take m r ≡ q = cc in
@@ -169,7 +170,7 @@ no_formal text z e g =
     subst (λ t. NoPiece t) (sym (as_one text 36 z e))
     (none_of (36 ∷ drop 1 text) piece.Formal refl (λ x. cc) (λ m l. no_name (drop 1 text) m g l))
 
--- strings
+-- configuration strings
 string_closes : (r q : List ℕ) → 40 ∷ r ≡ 40 ∷ q → closes mode.Plain 1 q ≡ true → closes mode.Plain 1 r ≡ true
 string_closes r q e c = let d : r ≡ q = cc in rw d c
 
@@ -198,7 +199,7 @@ no_string text z e g =
     subst (λ t. NoPiece t) (sym (as_one text 40 z e))
     (none_of (40 ∷ drop 1 text) piece.String refl (λ x. cc) (λ m l. never_closed (drop 1 text) m g l))
 
--- comments up to the end of the line
+-- comments up to an LF
 abbrev pub in_line : ℕ → Bool
 in_line b = if eqb b 10 then false else true
 
@@ -261,7 +262,7 @@ no_colons text e f = no_piece text (rw (e, ne_eqb (get_or text 1 0) 58 f) refl)
 pub no_arrow : (text : List ℕ) → get_or text 0 0 ≡ 45 → get_or text 1 0 ≢ 62 → NoPiece text
 no_arrow text e f = no_piece text (rw (e, ne_eqb (get_or text 1 0) 62 f) refl)
 
--- nothing stands after the end
+-- no byte comes after the end
 pub past_end : (text : List ℕ) (x : ℕ) → length text ≤ 1 → 0 < x → get_or text 1 0 ≢ x
 past_end text x l z e = let d = get_or_past text 1 0 l in omega arith
 

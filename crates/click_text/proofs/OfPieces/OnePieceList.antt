@@ -1,4 +1,4 @@
--- The pieces of a text are determined by it.
+-- A text has at most one list of pieces.
 use Rattle.std.proofs.Common.{◌≡◌, ◌≢◌, ℕ, zero, suc, ◌+◌, ◌-◌, ◌<◌, List, [], ◌∷◌, length, take, drop, refl, sym, ◌∙◌, arith, inl, inr, ◌⊎◌}
 use Rattle.std.proofs.lemmas.List.{take_rest}
 use Rattle.click_text.specs.declared.lexer.Piece.{Piece}
@@ -14,7 +14,7 @@ none_tail text at h = rw take_rest at h
 pub longest_tail : (text : List ℕ) (at : ℕ) (k : Piece) (n : ℕ) → Longest (take (length text - at) (drop at text)) k n → Longest (drop at text) k n
 longest_tail text at k n h = rw take_rest at h
 
--- no bytes are no piece
+-- no piece is empty
 no_empty : (k : Piece) (n : ℕ) → IsPiece k (take n []) → ⊥
 no_empty k zero h = let e = begins_as k [] zero h in cc
 no_empty k (suc n) h = let e = begins_as k [] (suc n) h in cc
@@ -29,7 +29,7 @@ equal_by a b h k = omega arith
 pub same_len : (text : List ℕ) (k j : Piece) (n m : ℕ) → Longest text k n → Longest text j m → n ≡ m
 same_len text k j n m l r = equal_by n m (λ h. l.longest j m h r.within r.form) (λ h. r.longest k n h l.within l.form)
 
--- what is a word, a number or a keyword is one of them alone
+-- a word, a number or a keyword is only one of them
 same_word : (k j : Piece) (p : List ℕ) → family k ≡ piece.Word → family j ≡ piece.Word → IsPiece k p → IsPiece j p → k ≡ j
 same_word piece.Word piece.Word p f g h i = refl
 same_word piece.Word piece.Number p f g (w, d, e, r) (z, a) = cc

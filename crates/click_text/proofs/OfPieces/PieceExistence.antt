@@ -1,4 +1,4 @@
--- Every text has pieces, up to an ending: whether a piece begins can be decided.
+-- Every text has pieces up to an ending, because it can be decided whether a piece begins it.
 use Rattle.std.proofs.Common.{◌⊎◌, inl, inr, ◌≡◌, ℕ, zero, suc, ◌+◌, ◌<◌, ◌≤◌, List, [], ◌∷◌, ◌++◌, length, take, drop, Bool, true, false, Option, Some, None, refl, sym, subst, arith, length-drop}
 use Rattle.std.specs.Prelude.{codes, if◌then◌else◌, eqb}
 use Rattle.std.specs.List.{list_all}
@@ -37,7 +37,7 @@ whole_decided [] b = inr (λ h. omega (arith, h.0))
 whole_decided (x ∷ p) true = inl (omega arith, refl)
 whole_decided (x ∷ p) false = inr (λ h. let e = h.1 in cc)
 
--- what stands after a fixed beginning
+-- it can be decided whether bytes begin with q and go on with Q
 after_beginning : (q : List ℕ) (Q : List ℕ → Type 0) → ((r : List ℕ) → Decided (Q r)) → (p : List ℕ) → Decided ((r : List ℕ) × (p ≡ q ++ r) × Q r)
 after_beginning [] Q f p = elim (f p) [
   | inl h ↦ inl (p, refl, h)
@@ -98,7 +98,7 @@ decided piece.Bar p = list_decided p (codes "|")
 abbrev AnyPiece : List ℕ → Type 0
 AnyPiece p = (k : Piece) × IsPiece k p
 
--- one of these kinds, or none of them
+-- the bytes are a piece of none of these kinds
 abbrev NoneOf : List Piece → List ℕ → Type 0
 NoneOf [] p = Unit {0}
 NoneOf (k ∷ ks) p = (IsPiece k p → ⊥) × NoneOf ks p
@@ -136,7 +136,7 @@ none_is p n piece.Bar h = n.1.1.1.1.1.1.1.1.1.1.1.1.1.1.1.1.1.0 h
 any_piece : (p : List ℕ) → AnyPiece p ⊎ ((k : Piece) → IsPiece k p → ⊥)
 any_piece p = elim (any_of kinds p) [ inl h ↦ inl h | inr n ↦ inr (none_is p n) ]
 
--- among the first m beginnings of a text the longest that is a piece, or none is
+-- the longest piece among the prefixes of up to m bytes, or none
 record Best (text : List ℕ) (m : ℕ) : Type 0 where
   pub kind : Piece
   pub size : ℕ
@@ -181,7 +181,7 @@ best text (suc m) = elim (any_piece (take (suc m) text)) [
   ]
 ]
 
--- a piece has bytes
+-- no piece is empty
 some_bytes : (text : List ℕ) (k : Piece) (n : ℕ) → IsPiece k (take n text) → 0 < n
 some_bytes text k zero h = let e = begins_as k [] zero h in cc
 some_bytes text k (suc n) h = omega arith
@@ -208,6 +208,6 @@ reads_within (suc n) at (x ∷ r) h = elim (best (x ∷ r) (length (x ∷ r))) [
   | inr z ↦ ([], piece_fault at (x ∷ r), stuck at (x ∷ r) (omega arith) (λ k m l q. z k m l q))
 ]
 
--- every text has pieces, up to an ending
+-- every text has pieces up to an ending
 pub reads : (text : List ℕ) → (ts : List Token) × (e : Ending) × Reads 0 text ts e
 reads text = reads_within (length text) 0 text (omega arith)

@@ -1,4 +1,4 @@
--- What is closed closes nothing longer: configuration strings and comments.
+-- Bytes that close a configuration string or a comment do not close it earlier.
 use Rattle.std.proofs.Common.{◌≡◌, ℕ, List, [], ◌∷◌, ◌++◌, true, false, ◌&&◌, eqb, refl, inl, inr}
 use Rattle.std.proofs.lemmas.Bool.{false≢true, cases_Bool}
 use Rattle.click_text.specs.declared.strings.Mode.{Mode}

@@ -1,4 +1,4 @@
--- How far a word goes, and other runs of bytes.
+-- The ends of words and of other runs of bytes.
 use Rattle.std.proofs.Common.{◌≡◌, ℕ, ◌+◌, ◌<◌, ◌≤◌, List, [], ◌∷◌, ◌++◌, length, get_or, take, drop, Bool, true, false, eqb, refl, sym, ◌∙◌, arith, inl, inr, append_assoc, length-take, length-drop}
 use Rattle.std.specs.Prelude.{if◌then◌else◌}
 use Rattle.std.specs.List.{list_all}
@@ -8,7 +8,7 @@ use Rattle.std.proofs.lemmas.List.Folds.{list_all_at}
 use Rattle.click_text.specs.Pieces.{word_byte, is_word}
 use Rattle.click_text.proofs.OfPieces.FirstBytes.{word_slash, word_first}
 
--- a longer front goes on after a shorter one
+-- a longer prefix is a shorter one with further bytes
 pub front_splits : (text : List ℕ) (n m : ℕ) → n < m → m ≤ length text → take m text ≡ take n text ++ get_or text n 0 ∷ drop (n + 1) (take m text)
 front_splits text n m h l =
     let a : n < length (take m text) = omega (arith, length-take m text) in
@@ -24,7 +24,7 @@ run_ends p r n m h l f =
     let a : n < length (take m r) = omega (arith, length-take m r) in
     list_all_at p (take m r) n 0 a (rw (get_or-take m r n 0 h) f)
 
--- how a word goes on
+-- what may follow a word
 pub word_on : (p : List ℕ) (y : ℕ) (ys : List ℕ) → is_word p ≡ true → is_word (p ++ y ∷ ys) ≡ (if eqb y 47 then is_word ys else is_word (y ∷ ys))
 word_on [] y ys h = absurd (false≢true h)
 word_on (b ∷ []) y ys h = rw h refl
@@ -69,7 +69,7 @@ no_more text n m h l f g t = elim (cases_Bool (eqb (get_or text n 0) 47)) [
       false≢true (sym f ∙ a)
 ]
 
--- a word ends before a byte that it can't go on with
+-- a word ends before a byte that cannot continue it
 pub word_most : (text : List ℕ) (n : ℕ) → is_word (take n text) ≡ true → word_byte (get_or text n 0) ≡ false → (get_or text n 0 ≡ 47 → word_byte (get_or text (n + 1) 0) ≡ false) → (m : ℕ) → n < m → m ≤ length text → is_word (take m text) ≡ false
 word_most text n w f g m h l =
     rw (front_splits text n m h l, word_on (take n text) (get_or text n 0) (drop (n + 1) (take m text)) w)

@@ -1,4 +1,4 @@
--- Where no item of more than one byte begins, `first_item` answers one of a byte.
+-- When `first_item` returns an item of one byte.
 use Rattle.std.specs.Prelude.{ℕ, ◌<◌, ◌≤◌, List, length, take}
 use Rattle.click_text.specs.declared.items.ItemKind.{ItemKind}
 use Rattle.click_text.specs.Items.{IsItem}

@@ -1,5 +1,6 @@
--- What may follow the tokens so far: a machine over tokens that keeps what is open. It is equal to the grammar (proofs/OfParser/GrammarEquality.antt);
--- the parser's private contracts speak of it.
+-- A state machine over tokens. Its state holds what is open after the tokens so far, which
+-- determines what may follow. It accepts exactly the texts of the grammar
+-- (proofs/OfParser/GrammarEquality.antt). The private contracts of the parser cite it.
 use Rattle.std.specs.Prelude.{◌≡◌, ℕ, ◌+◌, ◌-◌, List, [], ◌∷◌, ◌++◌, length, Option, Some, None, Bool, true, false, nat_lt, if◌then◌else◌}
 use Rattle.click_text.specs.declared.syntax.Span.{Span}
 use Rattle.click_text.specs.declared.syntax.Token.{Token}
@@ -20,28 +21,30 @@ use Rattle.click_text.specs.declared.tokens.ArrowPorts.{ArrowPorts}
 use Rattle.click_text.specs.Grammar.{written_port, element, link, chain, declaration, body, Tree, most_open, Brace, Opens, Closes, Neither, brace}
 
 mutual
-  -- where a list of statements stands: inside a body with its brace, its parameters and what it is for, or in none
+  -- where a list of statements belongs: to the whole text, or to a body, with its brace, its
+  -- parameters and its use
   pub data Place : Type 0 where
     top : Place
     inside : Span → List Span → Use → Place
 
-  -- what a body is for
+  -- what a body is used for
   pub data Use : Type 0 where
     as_element : Context → Use
     as_class : Target → Use
     as_definition : Span → Place → List Statement → Use
 
-  -- what a class goes to: a head's name, or the names of a declaration
+  -- what a class is used for: the name of a head, or the names of a declaration
   pub data Target : Type 0 where
     of_head : Span → Context → Target
     of_names : List Span → Place → List Statement → Target
 
-  -- what an element goes to: it is the first of a chain, or a further one after an arrow with these ports
+  -- what an element is used for: the first of a chain, or a further one after an arrow with these
+  -- ports
   pub data Context : Type 0 where
     start : Place → List Statement → Context
     linked : Place → List Statement → Element → List Link → Option WrittenPort → Option WrittenPort → Context
 
--- which port of an arrow comes: the one before it, or the one after it, where the one before it is known
+-- the side of an arrow that a port is on; `into` has the port that was written before the arrow
 pub data Side : Type 0 where
   out : Side
   into : Option WrittenPort → Side
@@ -51,43 +54,43 @@ pub data State : Type 0 where
   between : List Body → Place → List Statement → State
   -- a statement must begin
   statement_wanted : List Body → Place → List Statement → State
-  -- a statement's first word has been read
+  -- the first word of a statement was read
   first_read : List Body → Place → List Statement → Span → State
-  -- after a comma a further name must come
+  -- after a comma another name must come
   name_wanted : List Body → Place → List Statement → List Span → State
-  -- names have been read
+  -- names were read
   name_read : List Body → Place → List Statement → List Span → State
-  -- the names' class has been read, which a string may follow
+  -- the class of several names was read; a string may follow
   listed_read : List Body → Place → List Statement → List Span → ClassReference → State
   -- the name of a definition must come
   define : List Body → Place → List Statement → State
-  -- what that name is for must come
+  -- the body or class of a definition must come
   define_named : List Body → Place → List Statement → Span → State
-  -- a requirement's string may come
+  -- the string of a requirement may come
   required : List Body → Place → List Statement → State
-  -- a statement is read, and must end
+  -- a statement was read and must end
   ending : List Body → Place → List Statement → Statement → State
-  -- a brace has been opened, which parameters may follow
+  -- a brace was opened; parameters may follow
   body_opened : List Body → Span → Use → State
-  -- a further parameter must come
+  -- another parameter must come
   formal_wanted : List Body → Span → Use → List Span → State
-  -- a parameter has been read
+  -- a parameter was read
   formal_read : List Body → Span → Use → List Span → State
   -- an element must come
   element_wanted : List Body → Context → State
-  -- a word has been read, which may be declared
+  -- a word was read, which may be declared
   word_read : List Body → Context → Span → State
   -- a class must come
   class_wanted : List Body → Target → State
-  -- a head has been read, which a string may follow
+  -- a head was read; a string may follow
   head_read : List Body → Context → Head → State
   -- an element has ended
   after : List Body → Place → List Statement → Element → List Link → State
-  -- a port may come, and then what stands after it must
+  -- a port may come, and then what follows a port must
   port_wanted : List Body → Place → List Statement → Element → List Link → Side → State
-  -- a bracket is open, and a port's number must come
+  -- a bracket was opened; the number of a port must come
   number_wanted : List Body → Place → List Statement → Element → List Link → Side → Span → State
-  -- a bracket must close
+  -- a closing bracket must come
   close_wanted : List Body → Place → List Statement → Element → List Link → Side → Span → ℕ → State
   -- an arrow must come
   arrow_wanted : List Body → Place → List Statement → Element → List Link → Option WrittenPort → State
@@ -111,7 +114,7 @@ abbrev pub classified : List Body → Target → ClassReference → State
 classified bs (of_head s cx) c = head_read bs cx (head.Declared s c)
 classified bs (of_names ns p ss) c = listed_read bs p ss ns c
 
--- the state after a body, which has this place
+-- the state after a body with index n
 abbrev pub body_read : List Body → Use → ℕ → State
 body_read bs (as_element cx) n = head_read bs cx (head.Compound n)
 body_read bs (as_class g) n = classified bs g (class.Body n)
@@ -122,49 +125,49 @@ abbrev pub ported : List Body → Place → List Statement → Element → List 
 ported bs p ss f ls out q = arrow_wanted bs p ss f ls q
 ported bs p ss f ls (into from) q = element_wanted bs (linked p ss f ls from q)
 
--- an element begins
+-- the state after a token, if an element must begin
 abbrev pub begun : List Body → Context → Token → Option State
 begun bs cx (token.Word s) = Some (word_read bs cx s)
 begun bs cx (token.Open a) = Some (body_opened bs a (as_element cx))
 begun bs cx _ = None
 
--- a class comes
+-- the state after a token, if a class must come
 abbrev pub classed : List Body → Target → Token → Option State
 classed bs g (token.Word w) = Some (classified bs g (class.Named w))
 classed bs g (token.Open a) = Some (body_opened bs a (as_class g))
 classed bs g _ = None
 
--- the statements of a body end
+-- the state after a brace that closes a body
 abbrev pub closed : List Body → Place → List Statement → Span → Option State
 closed bs top ss b = None
 closed bs (inside a fs u) ss b = Some (body_read (bs ++ body a b fs ss ∷ []) u (length bs))
 
--- an arrow comes
+-- the state after a token, if an arrow must come
 abbrev pub arrowed : List Body → Place → List Statement → Element → List Link → Option WrittenPort → Token → Option State
 arrowed bs p ss f ls q (token.Arrow s) = Some (port_wanted bs p ss f ls (into q))
 arrowed bs p ss f ls q _ = None
 
--- what stands after a port comes
+-- the state after a token that follows a port
 abbrev pub past_port : List Body → Place → List Statement → Element → List Link → Side → Option WrittenPort → Token → Option State
 past_port bs p ss f ls out q t = arrowed bs p ss f ls q t
 past_port bs p ss f ls (into from) q t = begun bs (linked p ss f ls from q) t
 
--- a port comes, or what stands after it
+-- the state after a token, if a port may come
 abbrev pub port_begun : List Body → Place → List Statement → Element → List Link → Side → Token → Option State
 port_begun bs p ss f ls side (token.OpenBracket a) = Some (number_wanted bs p ss f ls side a)
 port_begun bs p ss f ls side t = past_port bs p ss f ls side None t
 
--- a port's number comes
+-- the state after a token, if the number of a port must come
 abbrev pub port_numbered : List Body → Place → List Statement → Element → List Link → Side → Span → Token → Option State
 port_numbered bs p ss f ls side a (token.Number (Some n) s) = Some (close_wanted bs p ss f ls side a n)
 port_numbered bs p ss f ls side a _ = None
 
--- a bracket closes
+-- the state after a token, if a closing bracket must come
 abbrev pub bracketed_off : List Body → Place → List Statement → Element → List Link → Side → Span → ℕ → Token → Option State
 bracketed_off bs p ss f ls side a n (token.CloseBracket b) = Some (ported bs p ss f ls side (Some (written_port n a b)))
 bracketed_off bs p ss f ls side a n _ = None
 
--- a token after an element
+-- the state after a token that follows an element
 abbrev pub beyond : List Body → Place → List Statement → Element → List Link → Token → Option State
 beyond bs p ss f ls (token.Semicolon s) = Some (between bs p (ss ++ chain f ls ∷ []))
 beyond bs p ss f ls (token.Close s) = closed bs p (ss ++ chain f ls ∷ []) s
@@ -174,83 +177,83 @@ abbrev pub beyond_element : List Body → Context → Element → Token → Opti
 beyond_element bs (start p ss) e t = beyond bs p ss e [] t
 beyond_element bs (linked p ss f ls from to) e t = beyond bs p ss f (ls ++ link from to e ∷ []) t
 
--- a token after a head
+-- the state after a token that follows a head
 abbrev pub headed : List Body → Context → Head → Token → Option State
 headed bs cx h (token.String s) = Some (element_read bs cx (element h (Some s)))
 headed bs cx h t = beyond_element bs cx (element h None) t
 
--- a token after a word
+-- the state after a token that follows a word
 abbrev pub worded : List Body → Context → Span → Token → Option State
 worded bs cx s (token.DoubleColon d) = Some (class_wanted bs (of_head s cx))
 worded bs cx s t = headed bs cx (head.Word s) t
 
--- a token after a statement's first word
+-- the state after a token that follows the first word of a statement
 abbrev pub firsted : List Body → Place → List Statement → Span → Token → Option State
 firsted bs p ss s (token.Comma c) = Some (name_wanted bs p ss (s ∷ []))
 firsted bs p ss s t = worded bs (start p ss) s t
 
--- a further name comes
+-- the state after a token, if another name must come
 abbrev pub named : List Body → Place → List Statement → List Span → Token → Option State
 named bs p ss ns (token.Word s) = Some (name_read bs p ss (ns ++ s ∷ []))
 named bs p ss ns _ = None
 
--- a token after names
+-- the state after a token that follows names
 abbrev pub names_on : List Body → Place → List Statement → List Span → Token → Option State
 names_on bs p ss ns (token.Comma c) = Some (name_wanted bs p ss ns)
 names_on bs p ss ns (token.DoubleColon d) = Some (class_wanted bs (of_names ns p ss))
 names_on bs p ss ns _ = None
 
--- a statement ends
+-- the state after a token, if a statement must end
 abbrev pub statement_over : List Body → Place → List Statement → Statement → Token → Option State
 statement_over bs p ss st (token.Semicolon s) = Some (between bs p (ss ++ st ∷ []))
 statement_over bs p ss st (token.Close s) = closed bs p (ss ++ st ∷ []) s
 statement_over bs p ss st _ = None
 
--- a token after the class of names
+-- the state after a token that follows the class of several names
 abbrev pub class_listed : List Body → Place → List Statement → List Span → ClassReference → Token → Option State
 class_listed bs p ss ns c (token.String s) = Some (ending bs p ss (declaration ns c (Some s)))
 class_listed bs p ss ns c t = statement_over bs p ss (declaration ns c None) t
 
--- the name of a definition comes
+-- the state after a token, if the name of a definition must come
 abbrev pub defined : List Body → Place → List Statement → Token → Option State
 defined bs p ss (token.Word s) = Some (define_named bs p ss s)
 defined bs p ss _ = None
 
--- what that name is for comes
+-- the state after a token that follows the name of a definition
 abbrev pub define_on : List Body → Place → List Statement → Span → Token → Option State
 define_on bs p ss s (token.Word c) = Some (ending bs p ss (a_synonym s c))
 define_on bs p ss s (token.Open a) = Some (body_opened bs a (as_definition s p ss))
 define_on bs p ss s _ = None
 
--- a statement begins
+-- the state after a token, if a statement must begin
 abbrev pub opening : List Body → Place → List Statement → Token → Option State
 opening bs p ss (token.Word s) = Some (first_read bs p ss s)
 opening bs p ss (token.Elementclass k) = Some (define bs p ss)
 opening bs p ss (token.Require k) = Some (required bs p ss)
 opening bs p ss t = begun bs (start p ss) t
 
--- a token where a statement may begin
+-- the state after a token, if a statement may begin
 abbrev pub statement_next : List Body → Place → List Statement → Token → Option State
 statement_next bs p ss (token.Semicolon s) = Some (between bs p ss)
 statement_next bs p ss (token.Close s) = closed bs p ss s
 statement_next bs p ss t = opening bs p ss t
 
--- a token after `require`
+-- the state after a token that follows `require`
 abbrev pub required_on : List Body → Place → List Statement → Token → Option State
 required_on bs p ss (token.String s) = Some (between bs p (ss ++ a_requirement (Some s) ∷ []))
 required_on bs p ss t = statement_next bs p (ss ++ a_requirement None ∷ []) t
 
--- a token after an open brace
+-- the state after a token that follows an opening brace
 abbrev pub unfolded : List Body → Span → Use → Token → Option State
 unfolded bs a u (token.Formal s) = Some (formal_read bs a u (s ∷ []))
 unfolded bs a u t = statement_next bs (inside a [] u) [] t
 
--- a further parameter comes
+-- the state after a token, if another parameter must come
 abbrev pub formal_next : List Body → Span → Use → List Span → Token → Option State
 formal_next bs a u fs (token.Formal s) = Some (formal_read bs a u (fs ++ s ∷ []))
 formal_next bs a u fs _ = None
 
--- a token after a parameter
+-- the state after a token that follows a parameter
 abbrev pub formal_on : List Body → Span → Use → List Span → Token → Option State
 formal_on bs a u fs (token.Comma c) = Some (formal_wanted bs a u fs)
 formal_on bs a u fs (token.Bar r) = Some (between bs (inside a fs u) [])
@@ -280,7 +283,7 @@ step (number_wanted bs p ss f ls side a) t = port_numbered bs p ss f ls side a t
 step (close_wanted bs p ss f ls side a n) t = bracketed_off bs p ss f ls side a n t
 step (arrow_wanted bs p ss f ls q) t = arrowed bs p ss f ls q t
 
--- the tree where the text may end
+-- the tree of the text, if it may end here
 abbrev pub tree_at_end : List Body → Place → List Statement → Option Tree
 tree_at_end bs top ss = Some (record { statements = ss; bodies = bs })
 tree_at_end bs (inside a fs u) ss = None
@@ -322,12 +325,12 @@ unfoldable pub run : State → List Token → Option Tree
 run s [] = finish s
 run s (t ∷ ts) = bind (step s t) (λ s'. run s' ts)
 
--- the state that a list of tokens leads to
+-- the state after a list of tokens
 unfoldable pub advance : State → List Token → Option State
 advance s [] = Some s
 advance s (t ∷ ts) = bind (step s t) (λ s'. advance s' ts)
 
--- how many braces are open after one, if it isn't one too many
+-- the number of open braces after a token, unless it opens one too many
 abbrev pub open_after_brace : Brace → ℕ → Option ℕ
 open_after_brace Opens n = if nat_lt n most_open then Some (n + 1) else None
 open_after_brace Closes n = Some (n - 1)
@@ -336,7 +339,8 @@ open_after_brace Neither n = Some n
 abbrev pub open_after : ℕ → Token → Option ℕ
 open_after n t = open_after_brace (brace t) n
 
--- how a run with the limit ends: with a tree, or before the first token that fits nowhere or is one `{` too many
+-- how a run with the limit ends: with a tree, or before the first token that fits nowhere or opens
+-- one brace too many
 pub data Outcome : Type 0 where
   Accepted : Tree → Outcome
   Refused : List Token → Outcome
@@ -358,36 +362,37 @@ unfoldable pub outcome : ℕ → State → List Token → Outcome
 outcome n s [] = accepted (finish s)
 outcome n s (t ∷ ts) = or_refused (step s t) (t ∷ ts) (λ s'. or_deep (open_after n t) (t ∷ ts) (λ m. outcome m s' ts))
 
--- after an element: an arrow with its ports, or the end of the chain
+-- the state after an element and an arrow with its ports, or after the end of the chain
 abbrev pub past_element : Option ArrowPorts → List Body → Place → List Statement → Element → List Link → State
 past_element (Some j) bs p ss f ls = element_wanted bs (linked p ss f ls j.from j.to)
 past_element None bs p ss f ls = between bs p (ss ++ chain f ls ∷ [])
 
--- after a word: its class, or nothing of its own
+-- the state after a word, with or without `::`
 abbrev pub past_word : Bool → List Body → Context → Span → State
 past_word true bs cx s = class_wanted bs (of_head s cx)
 past_word false bs cx s = head_read bs cx (head.Word s)
 
--- after names: a further one, or the class
+-- the state after names and a comma, or after names and `::`
 abbrev pub past_name : Bool → List Body → Place → List Statement → List Span → State
 past_name true bs p ss ns = name_wanted bs p ss ns
 past_name false bs p ss ns = class_wanted bs (of_names ns p ss)
 
--- after a parameter: a further one, or the body's statements
+-- the state after a parameter and a comma, or after a parameter and the `|`
 abbrev pub past_formal : Bool → List Body → Span → Use → List Span → State
 past_formal true bs a u fs = formal_wanted bs a u fs
 past_formal false bs a u fs = between bs (inside a fs u) []
 
--- where a parser stops for a fault, the run from before ends at the tokens that are left
+-- if the parser stops with a fault, the run from before ends with that fault, at the tokens that
+-- are left
 abbrev pub Stops : ParseStop → Outcome → List Token → Type 0
 Stops stop.Memory before rest = Unit {0}
 Stops stop.Unexpected before rest = before ≡ Refused rest
 Stops stop.TooDeep before rest = before ≡ Deep rest
 
--- no statement stands here: a brace closes, or nothing comes
+-- no statement begins here: a brace closes, or there is no token
 abbrev pub NoStatement : List Token → Type 0
 NoStatement ts = (tok : Token) (rest : List Token) → ts ≡ tok ∷ rest → (s : Span) × (tok ≡ token.Close s)
 
--- names of a declaration stand here
+-- the tokens begin with a name and a comma
 abbrev pub Lists : List Token → Span → Type 0
 Lists ts first = (c : Span) × (rest : List Token) × (ts ≡ token.Word first ∷ token.Comma c ∷ rest)

@@ -1,4 +1,4 @@
--- The pieces that are one byte, other than white space.
+-- The pieces of one byte, white space excepted.
 use Rattle.std.specs.Prelude.{ℕ, Option, Some, None, eqb, if◌then◌else◌}
 use Rattle.click_text.specs.declared.lexer.Piece.{Piece}
 use Rattle.click_text.specs.declared.lexer.Piece.TheVariants as piece

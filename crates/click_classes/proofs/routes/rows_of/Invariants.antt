@@ -3,7 +3,7 @@ use Rattle.std.specs.List.{All}
 use Rattle.click_classes.specs.kept.Rows.{IsReady, entry_of, longest_first}
 use Rattle.click_classes.proofs.routes.rows_of.Given as goal
 
--- the rows of the longer prefixes are there
+-- the rows for all longer prefixes have been added
 abbrev pub invariant-loop-len : goal.invariant-loop-len
 invariant-loop-len l = record {
   within : l.len ≤ 33;

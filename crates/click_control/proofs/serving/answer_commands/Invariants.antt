@@ -3,7 +3,8 @@ use Rattle.click_control.specs.Peers.{Input, Output}
 use Rattle.click_control.specs.kept.Going.{SoFar}
 use Rattle.click_control.proofs.serving.answer_commands.Given as goal
 
--- what was so far when the loop began goes on to what is now; each command that was taken up had a byte
+-- The session that was in progress when the loop began has come to the current state. Each command
+-- that was taken up had at least one byte.
 abbrev pub invariant-loop-command : goal.invariant-loop-command
 invariant-loop-command g l =
     let asks = g.P.Port.asks in

@@ -3,7 +3,8 @@ use Rattle.click_control.specs.Taking.{to_come}
 use Rattle.click_control.specs.kept.Going.{SoFar}
 use Rattle.click_control.proofs.serving.serve_turns.Given as goal
 
--- each command that was read is answered; a read gives 4,096 bytes at most, and a command has one at least
+-- Each command that was read is answered. A read returns at most 4,096 bytes, and a command has at
+-- least one.
 abbrev pub invariant-loop-reads : goal.invariant-loop-reads
 invariant-loop-reads g l =
     let input = g.R.Source.input in

@@ -2,7 +2,7 @@ use Rattle.std.proofs.Common.{◌≤◌, ◌-◌, length, take, false}
 use Rattle.click_control.specs.Peers.{HasWritten}
 use Rattle.click_control.proofs.serving.write_all.Given as goal
 
--- the bytes before the place are written
+-- the bytes before `at` are written
 abbrev pub invariant-loop-at : goal.invariant-loop-at
 invariant-loop-at g l =
     let output = g.W.Sink.output in

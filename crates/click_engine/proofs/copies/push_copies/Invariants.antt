@@ -3,7 +3,7 @@ use Rattle.click_engine.specs.Adjacency.{run_state_of, wiring_of}
 use Rattle.click_engine.specs.kept.Transfers.{Served}
 use Rattle.click_engine.proofs.copies.push_copies.Given as goal
 
--- the outputs so far are served
+-- the outputs up to here are served
 abbrev pub invariant-loop-copy : goal.invariant-loop-copy
 invariant-loop-copy l = record {
   same : l.push_frame.at ≡ l.initial.push_frame.at;

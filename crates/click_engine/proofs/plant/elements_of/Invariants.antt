@@ -3,7 +3,7 @@ use Rattle.std.specs.Vec.Iter.{into_iter_items}
 use Rattle.click_engine.specs.Plant.{elements_from}
 use Rattle.click_engine.proofs.plant.elements_of.Given as goal
 
--- the states so far are in elements, and the others are still to come
+-- the states up to here are in elements, and the others remain
 abbrev pub invariant-loop-state : goal.invariant-loop-state
 invariant-loop-state l = record {
   made : l.elements.items ≡ elements_from l.net 0 l.yielded;

@@ -4,7 +4,7 @@ use Rattle.click_engine.specs.kept.Transfers.{run_state_with, Along}
 use Rattle.click_engine.specs.kept.Tables.{far_of}
 use Rattle.click_engine.proofs.transfers.push_on.Given as goal
 
--- the output that is to get the packet, and where that leads
+-- the output that gets the packet next, and the input that it is connected to
 abbrev pub invariant-loop-left : goal.invariant-loop-left
 invariant-loop-left l =
     let i = l.initial in

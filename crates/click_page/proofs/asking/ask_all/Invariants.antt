@@ -5,7 +5,7 @@ use Rattle.click_control.specs.declared.command.Command.{Command}
 use Rattle.click_page.specs.kept.Calls.{AreNoPolls}
 use Rattle.click_page.proofs.asking.ask_all.Given as goal
 
--- the calls so far were asked, and for the answers to the others there is room
+-- the calls so far were made, and there is room for the answers to the others
 abbrev pub invariant-loop-call : goal.invariant-loop-call
 invariant-loop-call g l = record {
   asked : (readonly : Bool) (commands : List Command) → l.yielded ≡ map (call_of readonly) commands

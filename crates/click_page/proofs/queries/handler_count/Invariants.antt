@@ -4,7 +4,7 @@ use Rattle.form_urlencoded.specs.Parse.{raw_pairs_left}
 use Rattle.click_page.specs.Asking.{are_handlers}
 use Rattle.click_page.proofs.queries.handler_count.Given as goal
 
--- the pairs before these are handlers, and are counted
+-- the pairs so far are handlers, and are counted
 abbrev pub invariant-loop-name : goal.invariant-loop-name
 invariant-loop-name l = record {
   counted : l.count + length (raw_pairs_left l.name-iterator) ≡ length (raw_pairs l.query);

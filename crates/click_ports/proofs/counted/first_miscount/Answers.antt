@@ -9,7 +9,7 @@ use Rattle.click_ports.proofs.counted.first_miscount.Goals as goal
 none : Shape
 none = record { class = class.Queue; counts = record { inputs = (0, 0); outputs = (0, 0); equal = false } }
 
--- the shape at a place
+-- the shape at an index
 at : (ss xs : List Shape) (e : ℕ) → xs ≡ ss → e < length xs → slice_get ss e ≡ Some (get_or xs e none)
 at ss xs e h l = subst (λ ys. slice_get ys e ≡ Some (get_or xs e none)) h (slice_get-get_or xs e none l)
 

@@ -4,7 +4,7 @@ use Rattle.click_ports.proofs.SearchMarks.{way-start, way-on, way-end, waits-wit
 use Rattle.click_ports.proofs.search.ports_reaching.Goals as goal
 use Rattle.click_ports.proofs.search.ports_reaching.Goals.{In-Some}
 
--- the port that is worked off
+-- the port that is taken from the work is one of the graph
 here : (c : In-Some) → c.in-Some.port < length c.args.codes.now
 here c = waits-within c.args.codes.now c.args.outside.now c.args.inside.now c.args.code c.loop-port.marks.items c.loop-port.work.items c.pop.new.self.items c.in-Some.port c.loop-port.invariant c.in-Some.ensures.items
 

@@ -2,7 +2,7 @@ use Rattle.std.proofs.Common.{◌≡◌, ℕ, ◌≤◌, ◌++◌, List, ◌∷�
 use Rattle.click_text.specs.Items.{ends_quote}
 use Rattle.click_text.proofs.items.quote_len.Given as goal
 
--- no front so far leads out of the quote, and what follows goes on from here
+-- no prefix so far ends the quote, and the rest goes on from this mode
 abbrev pub invariant-loop-i : goal.invariant-loop-i
 invariant-loop-i l = record {
   unclosed : (n : ℕ) → n ≤ l.i → ends_quote l.fn.quote (take n l.text) ≡ false;

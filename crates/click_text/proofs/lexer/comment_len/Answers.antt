@@ -9,7 +9,7 @@ no_mark a b h = elim (cases_Bool (eqb a 42 && eqb b 47)) [
   | inr e ↦ e
 ]
 
--- no `*/` stands at these places
+-- there is no `*/` before offset n
 abbrev NoMark : List ℕ → ℕ → Type 0
 NoMark text n = (k : ℕ) → k < n → get_or text k 0 ≡ 42 → get_or text (suc k) 0 ≡ 47 → ⊥
 

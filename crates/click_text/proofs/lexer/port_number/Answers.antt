@@ -4,7 +4,7 @@ use Rattle.std.proofs.lemmas.List.{at_drop_more}
 use Rattle.click_text.specs.Pieces.{decimal_after, port_spelled}
 use Rattle.click_text.proofs.lexer.port_number.Goals as goal
 
--- further digits make a number no smaller
+-- more digits make a number no smaller
 number_grows : (n : ℕ) (ds : List ℕ) → n ≤ decimal_after n ds
 number_grows n [] = omega arith
 number_grows n (d ∷ ds) = let h = number_grows (10 * n + (d - 48)) ds in omega arith

@@ -3,7 +3,7 @@ use Rattle.click_text.specs.declared.strings.Mode.TheVariants as mode
 use Rattle.click_text.specs.Strings.{closes}
 use Rattle.click_text.proofs.strings.string_len.Given as goal
 
--- no front so far closes the string, and what follows goes on from here
+-- no prefix so far closes the string, and the rest goes on from this mode and depth
 abbrev pub invariant-loop-i : goal.invariant-loop-i
 invariant-loop-i l = record {
   deep : l.depth ≤ l.i + 1;

@@ -6,7 +6,7 @@ use Rattle.click_workers.specs.Linked.{HasRing, IsSettled}
 use Rattle.click_workers.specs.Work.{SideBySide}
 use Rattle.click_workers.proofs.linked.settle_all.Given as goal
 
--- the book still has the feed of each link to come
+-- The book still has the feed of each link that is not settled yet.
 abbrev pub invariant-loop-receiver : goal.invariant-loop-receiver
 invariant-loop-receiver g l = record {
   book : l.book ≡ record l.initial.book { consumers = l.book.consumers };

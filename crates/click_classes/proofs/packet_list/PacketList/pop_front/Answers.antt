@@ -1,4 +1,4 @@
--- The first packet is copied from its slot, and the ring begins at the next.
+-- The first packet is copied from its slot, and the ring begins at the next one.
 use Rattle.std.proofs.Common.{◌≡◌, ◌∷◌, ◌∙◌, ap, sym, length, List, drop, get_or, arith}
 use Rattle.click_packet.specs.Packet.{Packet}
 use Rattle.click_classes.specs.PacketList.{PacketList}

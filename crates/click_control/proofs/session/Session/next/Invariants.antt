@@ -2,7 +2,7 @@ use Rattle.std.proofs.Common.{length}
 use Rattle.click_control.specs.Taking.{GivesNone}
 use Rattle.click_control.proofs.session.Session.next.Given as goal
 
--- blank lines alone were taken
+-- only blank lines were taken up
 abbrev pub invariant-loop-error : goal.invariant-loop-error
 invariant-loop-error l = GivesNone l.initial.self l.self
 

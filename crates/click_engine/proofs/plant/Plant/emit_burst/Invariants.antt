@@ -2,7 +2,7 @@ use Rattle.std.proofs.Common.{◌≡◌, ◌+◌, ◌-◌}
 use Rattle.click_engine.specs.Rounds.{bursts}
 use Rattle.click_engine.proofs.plant.Plant.emit_burst.Given as goal
 
--- the packets that are left are still to come, on the plant as it is
+-- the remaining packets are emitted by the current plant
 abbrev pub invariant-loop-packet : goal.invariant-loop-packet
 invariant-loop-packet l = record {
   plant : (bursts (l.most - l._packet) l.at l.self).plant ≡ (bursts l.most l.at l.fn.self).plant;

@@ -18,7 +18,7 @@ loop-more-init c primitive_elements n h =
     (subst (λ p. Walking config (instance_without_parts c.len.result None None ∷ []) p 0 primitive_elements n) (sym c.new-2.ensures.items)
     (walking-first config c.len.result primitive_elements n c.len.ensures h))
 
--- the walk goes on
+-- the walk continues
 walking-here : (config : Config) (more : Bool) (w : Walk) (primitive_elements : List PrimitiveElement) (n : ℕ) → more ≡ true → IsAfter config more w primitive_elements n → Walking config w.instances.items w.primitive_elements.items w.place primitive_elements n
 walking-here config more w primitive_elements n e h = subst (λ m. IsAfter config m w primitive_elements n) e h
 

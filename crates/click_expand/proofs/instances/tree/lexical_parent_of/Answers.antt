@@ -2,7 +2,7 @@ use Rattle.std.proofs.Common.{◌≡◌, ℕ, Bool, true, false, Option, Some, N
 use Rattle.click_expand.specs.kept.InstanceWalk.{lexical_parent_by, here, after_lexical_parent}
 use Rattle.click_expand.proofs.instances.tree.lexical_parent_of.Goals as goal
 
--- the instance after is the lexical parent
+-- the next instance is the lexical parent
 pub lexical_parent_from : (b : Bool) (h : Option ℕ) (w : ℕ) → cond b None h ≡ Some w → h ≡ Some w
 lexical_parent_from true h w e = absurd (cc e)
 lexical_parent_from false h w e = e

@@ -15,7 +15,7 @@ index-block-requires c =
     let l = has-within (length c.args.self.now.shapes) c.args.self.now.connections c.args.port k.within c.requires in
     omega (arith, l, k.numbered.all_blocks, c.self.inside.blocks.ok.0)
 
--- the number, and that it is a place among the ports
+-- the number is right, and is an index of the ports
 told : (c : After-ahead) → (c.index-block.result.now.first + c.ahead.result + c.args.port.number ≡ port_index c.args.self.now.connections c.args.port)
     × (port_index c.args.self.now.connections c.args.port < length c.self.inside.ports.items)
 told c =

@@ -3,8 +3,8 @@ use Rattle.click_text.specs.declared.syntax.Statement.{Statement}
 use Rattle.click_text.specs.kept.ParserStates.{Place, start, outcome, between, element_wanted, after}
 use Rattle.click_text.proofs.parser.Parser.+parser.Given as goal
 
--- The measure is the number of tokens left; at one number of them statements stand above a statement, that above a chain,
--- that above an element, that above its head or a class, and those above a body.
+-- The measure is the number of tokens left. With the same number, the functions call each other in
+-- this order only: statements, statement, chain, element, head or class, body.
 abbrev pub decreases-statements : goal.decreases-statements
 decreases-statements l = 7 * length l.self.now.tokens.items.now + 6
 
@@ -32,7 +32,7 @@ decreases-class l = 7 * length l.self.now.tokens.items.now + 2
 abbrev pub decreases-body : goal.decreases-body
 decreases-body l = 7 * length l.self.now.tokens.items.now + 1
 
--- the run from the first element on goes on as one from after the links so far
+-- the run from the first element goes on like one after the links so far
 abbrev pub invariant-chain-links : goal.invariant-chain-links
 invariant-chain-links l = record {
   same : (p : Place) (ss : List Statement) → outcome l.depth (element_wanted l.fn.self.bodies (start p ss)) l.fn.self.tokens.items.now
@@ -43,7 +43,7 @@ invariant-chain-links l = record {
 abbrev pub decreases-chain-links : goal.decreases-chain-links
 decreases-chain-links l = length l.self.tokens.items.now
 
--- the run from the first statement on goes on as one from after the statements so far
+-- the run from the first statement goes on like one after the statements so far
 abbrev pub invariant-statements-rows : goal.invariant-statements-rows
 invariant-statements-rows l = record {
   same : (p : Place) → outcome l.depth (between l.fn.self.bodies p []) l.fn.self.tokens.items.now

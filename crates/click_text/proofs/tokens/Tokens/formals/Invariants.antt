@@ -4,7 +4,7 @@ use Rattle.click_text.specs.declared.syntax.Body.{Body}
 use Rattle.click_text.specs.kept.ParserStates.{Use, outcome, body_opened, formal_wanted}
 use Rattle.click_text.proofs.tokens.Tokens.formals.Given as goal
 
--- the run from after the brace on goes on as one from after the parameters so far
+-- the run after the opening brace goes on like one after the parameters so far
 abbrev pub invariant-formals : goal.invariant-formals
 invariant-formals l = record {
   same : (n : ℕ) (bs : List Body) (a : Span) (u : Use) → outcome n (body_opened bs a u) l.fn.self.items.now

@@ -4,7 +4,7 @@ use Rattle.click_text.specs.declared.syntax.Body.{Body}
 use Rattle.click_text.specs.kept.ParserStates.{Place, outcome, name_read}
 use Rattle.click_text.proofs.tokens.Tokens.names.Given as goal
 
--- the run from after the first name on goes on as one from after the names so far
+-- the run after the first name goes on like one after the names so far
 abbrev pub invariant-names : goal.invariant-names
 invariant-names l = record {
   same : (n : ℕ) (bs : List Body) (p : Place) (ss : List Statement) → outcome n (name_read bs p ss (l.fn.first ∷ [])) l.fn.self.items.now

@@ -10,7 +10,7 @@ use Rattle.click_expand.proofs.OfConnections.ConnectionIndex.{port-exact}
 use Rattle.click_expand.proofs.OfConnections.PortEquality.{port-eq}
 use Rattle.click_expand.proofs.connections.connection_index.ConnectionIndex.add.Goals as goal
 
--- what stands at a port once these ends stand at one of them
+-- the ends of a port, after an insertion at one port
 put : (b : Bool) (old new : Option PortEnds) (ends : PortEnds) (all : List ScopePort) → new ≡ cond b (Some ends) old → ends_of ends ≡ all →
     ends_or_none new ≡ cond b all (ends_or_none old)
 put true old new ends all p q = ap ends_or_none p ∙ q

@@ -1,4 +1,0 @@
-pub mod Asked
-pub mod InputLines
-pub mod Replays
-pub mod Statuses

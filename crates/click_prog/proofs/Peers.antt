@@ -1,0 +1,10 @@
+-- Lemmas on what is read and written, one call after another.
+use Rattle.std.proofs.Common.{◌≡◌, Bool, true, false, ◌||◌, refl}
+
+pub or-false : (b : Bool) → (b || false) ≡ b
+or-false true = refl
+or-false false = refl
+
+pub or-true : (b : Bool) → (b || true) ≡ true
+or-true true = refl
+or-true false = refl

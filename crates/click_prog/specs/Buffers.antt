@@ -1,0 +1,14 @@
+-- A buffer in front of a sink.
+use Rattle.std.specs.Prelude.{ℕ, List}
+use Rattle.std.specs.Io.KnownBytes.{append_known}
+use Rattle.click_control.specs.Peers.{Output}
+
+-- the sink, and the bytes that the buffer took and that are not written yet
+pub record BufferState (O : Type 0) : Type 0 where
+  pub sink : O
+  pub held : List ℕ
+
+-- The output of a buffer: that of its sink, followed by the bytes in the buffer. It has failed if
+-- its sink has.
+abbrev pub taken : {O : Type 0} → (O → Output) → BufferState O → Output
+taken output b = record { contents = append_known (output b.sink).contents b.held; failed = (output b.sink).failed }

@@ -1,0 +1,257 @@
+//! Sending the packets of a capture through a router, and writing those that leave it as a capture.
+
+ghost use Rattle.std.specs.Prelude.{◌≡◌, ◌⊎◌, [], length, false, true, OnOk, OnErr};
+ghost use Rattle.click_capture.specs.Captures.{header_bytes};
+ghost use Rattle.click_control.specs.Peers.{Input as AnInput, Output as AnOutput, HasWritten};
+ghost use Rattle.click_prog.specs.Reading.{Took, IsAtHand};
+ghost use Rattle.click_prog.specs.Buffers.{taken};
+ghost use Rattle.click_prog.specs.Passages.{PassageState, went};
+ghost use Rattle.click_prog.specs.Carrying.{widened_header, header_carry_fault, send_carry_fault, SendsAll, Passes, Carried, Ends, CarriesBehind, CarriesThrough};
+
+use crate::pcap::buffered::Buffered;
+use crate::pcap::carry_fault::{CarryFault, SendFault};
+use crate::pcap::passage::Passage;
+use crate::pcap::reading::{
+    HeaderReadFault, NextRecord, RecordReadFault, read_header, read_record,
+};
+use crate::pcap::ready::{Ready, is_at_hand};
+use crate::pcap::tally::Tally;
+use crate::pcap::writing::write_all;
+use click_capture::{
+    HEAD_LEN, HEADER_LEN, Head, Header, LONGEST_RECORD, Time, header_bytes, record_bytes,
+};
+use click_control::{Failed, Sink, Source};
+use click_packet::TooLong;
+use std::alloc::Global;
+
+/// The minimum snap length of a written capture, in bytes: that of the longest packet. A router may
+/// make packets longer.
+const LEAST_SNAP: u32 = 1_600;
+
+/// The maximum number of times that the sink is asked after one packet has entered.
+const MOST_ASKED: u32 = 1_048_576;
+
+/// Returns the header to write for one that was read: the same, but its snap length has room for
+/// every packet.
+fn widened_header(header: &Header) -> Header
+    ensures { result ≡ widened_header header.now }
+{
+    let mut widened_header = *header;
+    if widened_header.snap != 0 && widened_header.snap < LEAST_SNAP {
+        widened_header.snap = LEAST_SNAP;
+    }
+    widened_header
+}
+
+/// Sends the packets of a capture through the router.
+///
+/// Each packet enters, each task runs once, and then the packets that the sink returns are written,
+/// with the time of the packet that entered. A packet of more than 1,600 bytes is left out. The
+/// buffer is written before a read that may block, and at the end, even if the run stops early. The
+/// tally is kept up to date in both cases.
+pub fn carry<I: Source + Ready, O: Sink>(
+    alloc: Global,
+    passage: &mut Passage,
+    reader: &mut I,
+    writer: &mut Buffered<O>,
+    tally: &mut Tally,
+) -> Result<(), CarryFault>
+    requires { writer.old.held ≡ [] }
+    ensures { CarriesThrough (I.input reader.old) (I.input reader.new) (O.output writer.old.sink) (O.output writer.new.sink) passage.old passage.new result }
+{
+    let header = match read_header(reader) {
+        Ok(header) => header,
+        Err(why) => return Err(header_carry_fault(why)),
+    };
+    let Ok(front) = header_bytes(alloc, &widened_header(&header)) else {
+        return Err(CarryFault::NoMemory);
+    };
+    let ended = carry_behind(alloc, passage, &header, &front, reader, writer, tally);
+    match writer.flush() {
+        Ok(()) => ended,
+        Err(Failed) => Err(CarryFault::WriteFailed),
+    }
+}
+
+/// Converts the reason why no header was read.
+fn header_carry_fault(why: HeaderReadFault) -> CarryFault
+    ensures { result ≡ header_carry_fault why }
+{
+    match why {
+        HeaderReadFault::ReadFailed => CarryFault::ReadFailed,
+        HeaderReadFault::Short(count) => CarryFault::ShortHeader { at: count as u64 },
+        HeaderReadFault::Fault(fault) => CarryFault::Header(fault),
+    }
+}
+
+/// Writes the header of the written capture, and carries the records.
+fn carry_behind<I: Source + Ready, O: Sink>(
+    alloc: Global,
+    passage: &mut Passage,
+    header: &Header,
+    front: &[u8],
+    reader: &mut I,
+    writer: &mut Buffered<O>,
+    tally: &mut Tally,
+) -> Result<(), CarryFault>
+    requires { front.now ≡ header_bytes (widened_header header.now) }
+    ensures { (had : AnInput) → Took had (I.input reader.old) (header_bytes header.now)
+        → CarriesBehind header.now had (I.input reader.new) (taken O.output writer.old) (taken O.output writer.new) passage.old passage.new result }
+{
+    if let Err(Failed) = write_all(writer, front) {
+        return Err(CarryFault::WriteFailed);
+    }
+    carry_records(alloc, passage, header, reader, writer, tally)
+}
+
+/// Carries the records. Allocates 262,144 bytes for a packet, whatever the capture claims.
+fn carry_records<I: Source + Ready, O: Sink>(
+    alloc: Global,
+    passage: &mut Passage,
+    header: &Header,
+    reader: &mut I,
+    writer: &mut Buffered<O>,
+    tally: &mut Tally,
+) -> Result<(), CarryFault>
+    ensures { (had : AnInput) (held : AnOutput) (first : PassageState)
+        → Carried header.now had (I.input reader.old) held (taken O.output writer.old) first passage.old []
+        → Ends header.now had (I.input reader.new) held (taken O.output writer.new) first passage.new result }
+{
+    let Ok(mut packet) = vec![in alloc; 0u8; LONGEST_RECORD as usize] else {
+        return Err(CarryFault::NoMemory);
+    };
+    carry_each(
+        alloc,
+        passage,
+        header,
+        packet.as_mut_slice(),
+        reader,
+        writer,
+        tally,
+    )
+}
+
+/// Carries the records, each of which is read into `piece` in its turn.
+fn carry_each<I: Source + Ready, O: Sink>(
+    alloc: Global,
+    passage: &mut Passage,
+    header: &Header,
+    piece: &mut [u8],
+    reader: &mut I,
+    writer: &mut Buffered<O>,
+    tally: &mut Tally,
+) -> Result<(), CarryFault>
+    requires { length piece.old ≡ 262144 }
+    ensures { (had : AnInput) (held : AnOutput) (first : PassageState)
+        → Carried header.now had (I.input reader.old) held (taken O.output writer.old) first passage.old []
+        → Ends header.now had (I.input reader.new) held (taken O.output writer.new) first passage.new result }
+{
+    let mut at = HEADER_LEN as u64;
+    for before in 0..u64::MAX {
+        let number = before + 1;
+        if let Err(Failed) = flush_before_wait(header, reader, writer) {
+            return Err(CarryFault::WriteFailed);
+        }
+        let head = match read_record(reader, header, piece) {
+            Ok(NextRecord::End) => return Ok(()),
+            Ok(NextRecord::Packet(head)) => head,
+            Err(RecordReadFault::ReadFailed) => return Err(CarryFault::ReadFailed),
+            Err(RecordReadFault::Cut) => return Err(CarryFault::Cut { number, at }),
+            Err(RecordReadFault::TooLong(fault)) => return Err(CarryFault::TooLong {
+                number,
+                at,
+                fault,
+            }),
+        };
+        tally.read = number;
+        let kept = head.kept as usize;
+        if let Err(why) = carry_packet(
+            alloc,
+            passage,
+            header,
+            &head,
+            &piece[..kept],
+            writer,
+            tally,
+        ) {
+            return Err(send_carry_fault(why, number, at));
+        }
+        at = at.saturating_add((HEAD_LEN + kept) as u64);
+    }
+    // No input has 2^64 - 1 records.
+    Err(CarryFault::Uncounted)
+}
+
+/// Writes the buffer, unless the next record can be read without blocking.
+fn flush_before_wait<I: Ready, O: Sink>(
+    header: &Header,
+    reader: &I,
+    writer: &mut Buffered<O>,
+) -> Result<(), Failed>
+    ensures ok { OnOk result (HasWritten (taken O.output writer.old) (taken O.output writer.new) [] false) }
+    ensures none_waits { OnOk result ((writer.new.held ≡ []) ⊎ IsAtHand header.now (I.at_hand reader.now)) }
+    ensures err { OnErr result (HasWritten (taken O.output writer.old) (taken O.output writer.new) [] true) }
+{
+    if is_at_hand(header, reader.ready()) {
+        return Ok(());
+    }
+    writer.flush()
+}
+
+/// Converts the reason why the packets after a record's packet were not all written.
+fn send_carry_fault(why: SendFault, number: u64, at: u64) -> CarryFault
+    ensures { result ≡ send_carry_fault why number at }
+{
+    match why {
+        SendFault::GivesOn => CarryFault::GivesOn { number, at },
+        SendFault::NoMemory => CarryFault::NoMemory,
+        SendFault::WriteFailed => CarryFault::WriteFailed,
+    }
+}
+
+/// Carries the packet of a record.
+fn carry_packet<O: Sink>(
+    alloc: Global,
+    passage: &mut Passage,
+    header: &Header,
+    head: &Head,
+    bytes: &[u8],
+    writer: &mut O,
+    tally: &mut Tally,
+) -> Result<(), SendFault>
+    ensures { Passes header.now (record { time = head.now.time; wire = head.now.wire; bytes = bytes.now }) passage.old passage.new (O.output writer.old) (O.output writer.new) result }
+{
+    if let Err(TooLong) = passage.enter(bytes) {
+        tally.left_out = tally.left_out.saturating_add(1);
+        return Ok(());
+    }
+    tally.entered = tally.entered.saturating_add(1);
+    send_all(alloc, passage, header, head.time, writer, tally)
+}
+
+/// Writes the packets that the sink returns until it has none, as records of this time.
+fn send_all<O: Sink>(
+    alloc: Global,
+    passage: &mut Passage,
+    header: &Header,
+    time: Time,
+    writer: &mut O,
+    tally: &mut Tally,
+) -> Result<(), SendFault>
+    ensures sends { SendsAll header.now time passage.old passage.new (O.output writer.old) (O.output writer.new) result }
+    ensures ends { passage.new ≡ went passage.old passage.new.router }
+{
+    for asked in 0..MOST_ASKED {
+        let Some(packet) = passage.sent() else {
+            return Ok(());
+        };
+        let Ok(record) = record_bytes(alloc, header.order, time, packet.bytes()) else {
+            return Err(SendFault::NoMemory);
+        };
+        if let Err(Failed) = write_all(writer, &record) {
+            return Err(SendFault::WriteFailed);
+        }
+        tally.written = tally.written.saturating_add(1);
+    }
+    Err(SendFault::GivesOn)
+}

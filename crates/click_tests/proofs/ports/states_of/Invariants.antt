@@ -1,6 +1,0 @@
-use Rattle.std.proofs.Common.{take}
-use Rattle.click_ports.specs.Net.{AreStatesOf}
-use Rattle.click_tests.proofs.ports.states_of.Given as goal
-
-abbrev pub invariant-loop-element : goal.invariant-loop-element
-invariant-loop-element l = AreStatesOf (take l.element-index l.elements) l.states.items

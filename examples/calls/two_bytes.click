@@ -1,0 +1,1 @@
+FromDevice(a) -> c :: Counter -> q :: Queue(2) -> ToDevice(b);
