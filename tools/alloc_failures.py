@@ -368,7 +368,7 @@ def steps_of(file: str) -> dict[int, str]:
 
 
 # The first columns of the steps that call a function that allocates.
-CALLING = ("parsed", "prepared", "open", "poll", "settle")
+CALLING = ("parsed", "prepared", "make", "open", "poll", "settle")
 
 
 def scripts(it: Refusing) -> None:
@@ -382,7 +382,7 @@ def scripts(it: Refusing) -> None:
     is_whole(ran(words), whole, SCRIPT)
     for nth, run, note, did in it.each(SCRIPT, words, b""):
         same(b"", did.err, f"{run}: standard error")
-        called = re.fullmatch(rb"%s:(\d+): memory ran out; called again\n%s" % (re.escape(path.encode()), re.escape(whole)), did.out)
+        called = re.fullmatch(rb"%s:(\d+): out of memory; the step is played again\n%s" % (re.escape(path.encode()), re.escape(whole)), did.out)
         if did.status == 0 and called:
             again.setdefault(int(called[1]), []).append(nth)
             it.answered += 1

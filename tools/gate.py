@@ -31,6 +31,8 @@ from running import Run, Running, minutes, say
 
 OUT = f"{TOP}/out"
 TIMES = f"{OUT}/gate-times.txt"
+# The processor minutes that the proofs took for each crate.
+CRATE_TIMES = f"{OUT}/crate-times.txt"
 # The programs that were proved, each with the checksums of its sources and of the program.
 PROVED = f"{OUT}/proved.txt"
 
@@ -62,6 +64,7 @@ TEXTS = (
     Part("run_sh", "run.sh builds if it has to, reports progress, and becomes the program", "tools/run_sh_test.sh"),
     Part("links", "pages name only files, headings, functions and definitions that exist", "tools/links.py"),
     Part("definitions", "each definition that a contract cites has a row in its crate's README", "tools/definitions.py"),
+    Part("mutant_names", "each mutant is named by the function that it changes and by the mutation", "tools/mutants.py --check-names"),
     Part("tests_page", "docs/TESTS.md has the sentences of the tests", "tools/tests_page.py --check"),
     Part("elements_page", "docs/ELEMENTS.md has the manual pages of the code", "tools/elements_page.py --check"),
     Part("prose", "the number of findings of tools/prose.py is the one that is stored", "tools/prose.py --check-count"),
@@ -235,6 +238,10 @@ def report(runs: list[Run], clock: float) -> int:
         it.write(table)
     say(f"what each part took, in minutes (also in {os.path.relpath(TIMES, TOP)})")
     print(table, end="")
+    if any(it.name == PROOFS.name for it in runs) and os.path.exists(CRATE_TIMES):
+        say("what the proofs took, in minutes of processors")
+        with open(CRATE_TIMES, encoding="ascii") as it:
+            print(it.read(), end="")
     failed = [it for it in runs if it.why]
     for run in failed:
         say(f"FAILED: {run.title}: {run.why}")

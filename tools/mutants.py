@@ -8,6 +8,8 @@ crates/NAME/wrong-bodies/*.edit and crates/NAME/by-hand/*.edit.
                                           of the others
     tools/mutants.py --list               prints each crate, the number of its mutants, and whether
                                           it is unchanged, changed or unrecorded; tries nothing
+    tools/mutants.py --check-names        checks the names of all mutants, also of those in
+                                          must-fail/; tries nothing
 
     --record    writes the checksum of each crate whose mutants were all tried and refused into
                 tools/mutants.txt
@@ -26,6 +28,10 @@ An edit has a line 'file: src/lib.rt' and pairs of lines 'old: TEXT' and 'new: T
 one line, and the old one occurs exactly once in the file. An edit that changes more than bodies,
 such as a constant, may have lines 'refused: PATH'. Each names a function that has to be refused.
 Without such lines any function may be refused.
+
+The name of an edit is FUNCTION__MUTATION.edit, in snake case. FUNCTION is the function, definition,
+type or constant that the edit changes, and MUTATION is what that does wrong. No other edit of the
+crate has the name.
 
 A function is proved from the contracts of the functions that it calls, whatever their bodies are.
 So one check tries many wrong bodies. The edits of different functions are made together in one copy
@@ -59,6 +65,11 @@ TOP = os.environ.get("TREE") or os.path.dirname(os.path.dirname(os.path.realpath
 PARTS = ("src", "specs", "proofs")
 # The folders of a crate's mutants.
 KINDS = ("wrong-bodies", "by-hand")
+# The head of an item, with its name: in a source, and in a file of definitions.
+HEADS = {
+    ".rt": re.compile(r"^ *(?:pub(?:\([^)]*\))? )?(?:(?:const|unsafe) )*(?:fn|const|static|type|struct|enum|trait) (\w+)", re.M),
+    ".antt": re.compile(r"^ *(?:(?:abbrev|unfoldable|def)(?: pub)?|(?:pub )?(?:record|data)) (\w+)", re.M),
+}
 # The checksums of the crates whose mutants were all refused.
 RECORD = f"{TOP}/tools/mutants.txt"
 # Of the crates that did not change, the gate tries one mutant in this number.
@@ -295,6 +306,37 @@ def functions_changed(crate, folder, path, pairs, with_heads):
     return {it and it._replace(first=0, last=0) for it in found}
 
 
+def items_of(folder, path):
+    """Returns the names of the items that an edit changes."""
+    texts, items, file, old = {}, set(), None, None
+    for word, text in re.findall("^(file|old|new): (.*)$", text_of(path), re.M):
+        if word == "file":
+            file = text
+        elif word == "old":
+            old = text
+        else:
+            before, _, after = (texts.get(file) or text_of(f"{folder}/{file}")).partition(old)
+            items.update(HEADS[os.path.splitext(file)[1]].findall(before + old)[-1:])
+            texts[file] = before + text + after
+    return items
+
+
+def faults_of_names(crate):
+    """Returns the number of mutants of a crate, and the faults of their names."""
+    folder, names, faults = f"{TOP}/crates/{crate}", [], []
+    plain = lambda it: it.replace("_", "").lower()
+    for path in mutants_of(crate, (*KINDS, "must-fail")):
+        name = os.path.basename(path)
+        function = re.fullmatch(r"([a-z0-9_]+?)__[a-z0-9][a-z0-9_]*\.edit", name)
+        items = items_of(folder, f"{folder}/{path}")
+        if not function or plain(function[1]) not in map(plain, items):
+            faults.append(f"{crate}/{path}: BAD NAME: it is not FUNCTION__MUTATION.edit for {' or '.join(sorted(items))}")
+        elif name in names:
+            faults.append(f"{crate}/{path}: BAD NAME: another mutant of the crate has it")
+        names.append(name)
+    return len(names), faults
+
+
 def changed(folder, texts, edit):
     """Returns the changed files after this edit, or None if it cannot be made.
 
@@ -461,9 +503,9 @@ def lanes():
     return max(1, min(len(os.sched_getaffinity(0)), int(free[1]) // 4_000_000))
 
 
-def mutants_of(crate):
-    """Returns the paths of the crate's mutants, below its folder."""
-    folders = [(kind, f"{TOP}/crates/{crate}/{kind}") for kind in KINDS]
+def mutants_of(crate, kinds=KINDS):
+    """Returns the paths of the crate's mutants in these folders, below its own."""
+    folders = [(kind, f"{TOP}/crates/{crate}/{kind}") for kind in kinds]
     return [f"{kind}/{it}" for kind, folder in folders if os.path.isdir(folder) for it in sorted(os.listdir(folder))]
 
 
@@ -543,6 +585,7 @@ def arguments():
     which.add_argument("--all", action="store_true", help="all mutants, of all crates or of the named ones")
     which.add_argument("--changed", action="store_true", help="those of the crates that changed, and a tenth of the others")
     which.add_argument("--list", action="store_true", help="print the crates and try nothing")
+    which.add_argument("--check-names", action="store_true", help="check the names of all mutants and try nothing")
     reader.add_argument("--record", action="store_true", help="record the crates whose mutants were all refused")
     reader.add_argument("names", nargs="*", metavar="NAME", help="a crate, with --all")
     asked, crates = reader.parse_args(), crates_of()
@@ -566,8 +609,19 @@ def named(asked, sums, known):
     return changed + tenth
 
 
+def check_names(crates):
+    """Prints the faults of the names of all mutants. Returns the exit status."""
+    found = [faults_of_names(it) for it in crates]
+    faults = [it for _, them in found for it in them]
+    print("".join(f"{it}\n" for it in faults), end="", file=sys.stderr)
+    print(f"{sum(count for count, _ in found) - len(faults)} passed, {len(faults)} failed")
+    return 1 if faults else 0
+
+
 def main():
     asked, crates = arguments()
+    if asked.check_names:
+        return check_names(crates)
     sums, known = sums_of(crates), recorded()
     if asked.list:
         for name in sums:

@@ -1,7 +1,7 @@
 #!/usr/bin/env bash
 # Tests tools/mutants.py on a crate of two functions. There are mutants that are refused, one that is
-# not, edits that are not mutants, and the choice of crates by the record. A wrong mutants.py that
-# takes every edit for refused, or that tries nothing, fails here.
+# not, edits that are not mutants, wrong names, and the choice of crates by the record. A wrong
+# mutants.py that takes every edit for refused, or that tries nothing, fails here.
 set -eu
 . "$(dirname "$(readlink -f "$0")")/lib/checking.sh"
 cd "$top"
@@ -33,12 +33,12 @@ pub fn after_next(n: u8) -> u8
 }
 E
 
-# edit NAME OLD NEW: makes the only mutant of the second function, next to one of the first.
+# edit MUTATION OLD NEW: makes the only mutant of the second function, next to one of the first.
 edit() {
     rm -rf "$mutants" "$tree/crates/small/by-hand"
     mkdir "$mutants"
-    printf 'file: src/lib.rt\nold:     n + 1\nnew:     n + 2\n' > "$mutants/two_more.edit"
-    printf 'file: src/lib.rt\nold: %s\nnew: %s\n' "$2" "$3" > "$mutants/$1.edit"
+    printf 'file: src/lib.rt\nold:     n + 1\nnew:     n + 2\n' > "$mutants/next__adds_2.edit"
+    printf 'file: src/lib.rt\nold: %s\nnew: %s\n' "$2" "$3" > "$mutants/after_next__$1.edit"
 }
 
 # try OPTION..: runs mutants.py on the tree.
@@ -64,7 +64,7 @@ fails() {
 
 # A crate is unrecorded until its mutants were all refused, and has changed if one of its sources
 # has. The tenth of the others, rounded up, is the only crate.
-edit same_number '    next(n + 1)' '    next(n)'
+edit returns_the_next '    next(n + 1)' '    next(n)'
 passes 'small 2 unrecorded' --list
 passes '2 passed, 0 failed' --changed --record
 same 'mutants.py: changed since their mutants were refused: none; of the others: small' "$(head -n 1 "$work/out")" 'the choice of an unrecorded crate'
@@ -74,26 +74,40 @@ passes 'small 2 changed' --list
 passes '2 passed, 0 failed' --changed
 same 'mutants.py: changed since their mutants were refused: small; of the others: none' "$(head -n 1 "$work/out")" 'the choice of a changed crate'
 
-edit no_such_text '    next(n + 3)' '    next(n)'
+edit has_no_such_text '    next(n + 3)' '    next(n)'
 fails 'stands 0 times' --all
-edit no_such_name '    next(n + 1)' '    next_of(n + 1)'
+edit calls_no_such_name '    next(n + 1)' '    next_of(n + 1)'
 fails 'did not reach the prover' --all
-edit no_pair '    next(n + 1)' '    next(n)'
-sed -i '$d' "$mutants/no_pair.edit"
+edit has_no_pair '    next(n + 1)' '    next(n)'
+sed -i '$d' "$mutants/after_next__has_no_pair.edit"
 fails 'it has no whole pair' --all
-edit no_such_function '    next(n + 1)' '    next(n)'
-echo 'refused: after_all' >> "$mutants/no_such_function.edit"
+edit names_no_such_function '    next(n + 1)' '    next(n)'
+echo 'refused: after_all' >> "$mutants/after_next__names_no_such_function.edit"
 fails 'there is no function small::after_all' --all
 
 # The mutants in by-hand/ are tried too, and a crate with a mutant that is not refused is not
 # recorded.
-edit same_number '    next(n + 1)' '    next(n)'
+edit returns_the_next '    next(n + 1)' '    next(n)'
 mkdir "$tree/crates/small/by-hand"
-printf 'file: src/lib.rt\nold:     n + 1\nnew:     1 + n\n' > "$tree/crates/small/by-hand/other_order.edit"
+printf 'file: src/lib.rt\nold:     n + 1\nnew:     1 + n\n' > "$tree/crates/small/by-hand/next__adds_in_reverse.edit"
 fails 'NOT REFUSED: small::next' --all --record
 passes 'small 3 unrecorded' --list
 rm -r "$tree/crates/small/by-hand"
 
+# A name begins with the item that is changed, says what is wrong, and is the only such name of the
+# crate.
+mkdir "$tree/crates/small/must-fail"
+for name in next__returns_the_next returns_the_next after_next; do
+    edit returns_the_next '    next(n + 1)' '    next(n)'
+    passes '2 passed, 0 failed' --check-names
+    mv "$mutants/after_next__returns_the_next.edit" "$tree/crates/small/must-fail/$name.edit"
+    fails "small/must-fail/$name.edit: BAD NAME: it is not FUNCTION__MUTATION.edit for after_next" --check-names
+    rm "$tree/crates/small/must-fail/$name.edit"
+done
+cp "$mutants/next__adds_2.edit" "$tree/crates/small/must-fail"
+fails 'BAD NAME: another mutant of the crate has it' --check-names
+rm -r "$tree/crates/small/must-fail"
+
 rm "$mutants"/*
 fails 'there is no mutant to try' --all
-echo 'mutants.py: 5 kinds of edits and the record: passed'
+echo 'mutants.py: 5 kinds of edits, names and the record: passed'

@@ -231,19 +231,19 @@ def headers():
     whole = header()
     for length in range(24):
         broken(f"a header of {length} bytes", whole[:length], 0, b"", f"byte {length}: the capture ends inside its header of 24 bytes")
-    newer = "byte 0: a pcapng capture, of which `editcap -F pcap` of Wireshark makes a pcap capture"
+    newer = "byte 0: this is a pcapng capture; `editcap -F pcap` of Wireshark converts it to a pcap capture"
     for order in "<>":
         broken("a section header block of pcapng", header(order, 0x0A0D0D0A), 0, b"", newer)
     for magic in (0, 0x0A0D0D0B, 0x0A0D0A0D, 0xA1B2CD34, 0xA1B2C3D5, 0xC3D4A1B2):
         for order in "<>":
-            broken(f"the magic number {magic:x}", header(order, magic), 0, b"", "byte 0: no magic number of a pcap capture")
+            broken(f"the magic number {magic:x}", header(order, magic), 0, b"", "byte 0: not a magic number of a pcap capture (a1b2c3d4 or a1b23c4d, in either byte order)")
     for major, minor in ((2, 3), (2, 5), (1, 4), (4, 2), (0x0204, 0)):
         for order in "<>":
-            wanted = f"byte 4: version {major}.{minor} of the format, and not 2.4"
+            wanted = f"byte 4: the format version is {major}.{minor}, not 2.4"
             broken(f"version {major}.{minor}", header(order, major=major, minor=minor), 0, b"", wanted)
     for link in (0, 113, 2, 0x10000001, 0x01000000):
         for order in "<>":
-            wanted = f"byte 20: link type {link}, and not 1 (Ethernet), 101 (raw IP) or 228 (IPv4)"
+            wanted = f"byte 20: the link type is {link}, not 1 (Ethernet), 101 (raw IP) or 228 (IPv4)"
             broken(f"link type {link}", header(order, link=link), 0, b"", wanted)
 
 
@@ -263,7 +263,7 @@ def records():
     for snap, most in ((65535, 65535), (1600, 1600), (0, 262144), (262145, 262144)):
         for claimed in (most + 1, 0x7FFFFFFF, 0xFFFFFFFF):
             start = header(snap=snap) + record(b"first")
-            wanted = f"packet 2, byte 45: {claimed} bytes, where the capture has {most} a packet at most"
+            wanted = f"packet 2, byte 45: the record has {claimed} bytes; the capture allows at most {most}"
             broken(f"{claimed} bytes at snap length {snap}", start + struct.pack("<IIII", 0, 0, claimed, claimed) + b"x" * 99, 1, start, wanted)
     endless()
 
@@ -291,17 +291,17 @@ def endless():
             child.stdin.close()
         except OSError:
             pass
-    wanted = b"error: packet 2, byte 45: 4294967295 bytes, where the capture has 65535 a packet at most\n" + counts_line(1, 0, 1, 1)
+    wanted = b"error: packet 2, byte 45: the record has 4294967295 bytes; the capture allows at most 65535\n" + counts_line(1, 0, 1, 1)
     has("an endless record", subprocess.CompletedProcess(words, child.returncode, out, error), 1, start, wanted)
 
 
 def devices():
     """Checks missing sources and sinks: nothing is read."""
     for what, source, sink, wanted in (
-        ("no source", "eth7", "eth1", "error: the configuration has no source of the device --in\n"),
-        ("no sink", "eth0", "eth7", "error: the configuration has no sink of the device --out\n"),
-        ("neither", "", "", "error: the configuration has no source of the device --in\n"),
-        ("the wrong way round", "eth1", "eth0", "error: the configuration has no source of the device --in\n"),
+        ("no source", "eth7", "eth1", "error: --in <DEVICE>: the configuration has no FromDevice for this device\n"),
+        ("no sink", "eth0", "eth7", "error: --out <DEVICE>: the configuration has no ToDevice for this device\n"),
+        ("neither", "", "", "error: --in <DEVICE>: the configuration has no FromDevice for this device\n"),
+        ("the wrong way round", "eth1", "eth0", "error: --in <DEVICE>: the configuration has no FromDevice for this device\n"),
     ):
         with tempfile.TemporaryFile() as given:
             given.write(header() + record(b"x"))
@@ -423,7 +423,7 @@ def million():
     again = "FromDevice(eth0) -> q :: Queue -> t :: PullTee(2) -> ToDevice(eth1); t [1] -> q;"
     given = header() + record(b"\x07" * 1601) + record(b"x", (7, 8)) + record(b"y")
     asked = 1_048_576
-    wanted = b"error: packet 2, byte 1641: the sink was asked 1048576 times after it, and gave a packet each time\n"
+    wanted = b"error: packet 2, byte 1641: the sink returned 1048576 packets after this packet; fewer are allowed\n"
     has("a packet that comes again and again", run(again, given), 1, header() + record(b"x", (7, 8)) * asked, wanted + counts_line(2, 1, 1, asked))
 
 

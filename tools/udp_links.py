@@ -454,8 +454,8 @@ def refused():
     taken = Link("b")
     taken.here = taken.port
     for links, status, line in (
-        ([a, other], 2, "click_prog: --link takes a device once, and 'a' is given twice"),
-        ([a, taken], 4, f"click_prog: link b cannot have {HOST}:{taken.here}: Address already in use (os error 98)"),
+        ([a, other], 2, "click_prog: --link: the device 'a' is given twice; each device can have one link"),
+        ([a, taken], 4, f"click_prog: link b: cannot open a socket at {HOST}:{taken.here}: Address already in use (os error 98)"),
     ):
         words = [PROGRAM, "--live", "-e", PLAIN, *(word for it in links for word in ("--link", it.word()))]
         ended = subprocess.run(words, input=b"READ c.count\n", capture_output=True, timeout=SECONDS, check=False)

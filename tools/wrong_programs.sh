@@ -449,7 +449,7 @@ pages() {
     wrong_example texts examples/texts.txt '1s/^0 statements/1 statements/'
     wrong_example refused examples/faults.txt '1s/1:6/1:7/'
     wrong_example opens examples/opens.txt '$a Idle => Discard;'
-    wrong_example wrong_lines examples/calls/wrong_lines.txt '1s/no call/a call/'
+    wrong_example wrong_lines examples/calls/wrong_lines.txt '1s/not a call/a call/'
     wrong_example arguments examples/arguments.txt '1s/were/was/' 's/\tgood$/\tclick_prog 1/'
     wrong_example files examples/counter.transcript 's/^0/1/'
     wrong_example files examples/mixed.status 's/1/0/'

@@ -78,15 +78,15 @@ WRONG_SESSIONS = [
     (f"port\tturns=2\tquit, 1 calls\n{READS}", "gate closed, 1 calls, before 1 0 26, after 1 1 52, before 2 1 52", (BOTH, FIRST)),
     (f"port\twaits\tend of input, 1 calls\n< FOO\n{READS}", "read failed, 1 calls", (BOTH, SECOND + FIRST)),
 ]
-NO_STEP = "no step has these words here"
-NO_ESCAPE = "a backslash has no escape behind it"
+NO_STEP = "the words are not a step that is allowed here"
+NO_ESCAPE = "a backslash must be followed by two lower-case hex digits or by *N(TEXT)"
 # Lines of a script with a fault, the line number of the fault, and its message.
 FAULTS = [
     ("", 1, "the file has no case"),
     ("# A comment.\n\n", 3, "the file has no case"),
     ("case\tA.\ncase\tB.\n", 1, "the case has no step"),
     (f"{DESK}case\tB.\n", 3, "the case has no step"),
-    (f"0\tround\tworked 0\n{DESK}", 1, "the step stands before the first case"),
+    (f"0\tround\tworked 0\n{DESK}", 1, "the step comes before the first case"),
     ("case\t\n", 1, "the case has no sentence"),
     (f"{DESK}0\tround\n", 3, "the step has no expected reply"),
     (f"{DESK}frob\tx\ty\n", 3, NO_STEP),
@@ -113,9 +113,9 @@ FAULTS = [
     (f"{DESK}0\tread \\*x(ab)\tdone\n", 3, NO_ESCAPE),
     (f"{DESK}0\tread c.count\t\\q\n", 3, NO_ESCAPE),
     (f"{DESK}0\tread c.count\\\tdone\n", 3, NO_ESCAPE),
-    (f"< x\n{DESK}", 1, "the bytes stand before the first step"),
-    ("case\tA.\n< x\n", 2, "the bytes stand before the first step"),
-    (f"{DESK}<x\n", 3, "a blank has to follow the mark"),
+    (f"< x\n{DESK}", 1, "the bytes come before the first step"),
+    ("case\tA.\n< x\n", 2, "the bytes come before the first step"),
+    (f"{DESK}<x\n", 3, "the mark < or > must be followed by a space"),
     (f"{DESK}session\t2\tquit\n", 3, NO_STEP),
     (f"{DESK}session\t0 frob\tquit\n", 3, NO_STEP),
     (f"{DESK}session\t0 pieces=0\tquit\n", 3, NO_STEP),

@@ -7,7 +7,7 @@ use Rattle.click_capture.specs.declared.header.Link.{Link}
 use Rattle.click_capture.specs.declared.header.Link.TheVariants as link
 use Rattle.click_capture.specs.declared.header.Header.{Header}
 use Rattle.click_capture.specs.declared.record.Time.{Time}
-use Rattle.click_capture.specs.declared.record.Head.{Head}
+use Rattle.click_capture.specs.declared.record.RecordHeader.{RecordHeader}
 use Rattle.click_capture.specs.declared.fault.HeaderFault.{HeaderFault}
 use Rattle.click_capture.specs.declared.fault.HeaderFault.TheVariants as fault
 use Rattle.click_capture.specs.Numbers.{word, half}
@@ -30,7 +30,7 @@ header_bytes h =
     ++ word h.order (link_number h.link)
 
 -- the bytes before those of a packet, field by field
-abbrev pub head_bytes : Order → Head → List ℕ
+abbrev pub head_bytes : Order → RecordHeader → List ℕ
 head_bytes o head = word o head.time.seconds ++ word o head.time.fraction ++ word o head.kept ++ word o head.wire
 
 -- a packet in a capture: its time of capture, its length on the wire, and the bytes that were kept
@@ -39,7 +39,7 @@ pub record Record : Type 0 where
   pub wire : ℕ
   pub bytes : List ℕ
 
-abbrev pub head_with : Record → Head
+abbrev pub head_with : Record → RecordHeader
 head_with r = record { time = r.time; kept = length r.bytes; wire = r.wire }
 
 -- a packet of which all bytes were kept

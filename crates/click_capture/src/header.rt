@@ -3,9 +3,9 @@
 ghost use Rattle.std.specs.Prelude.{◌≡◌, ◌≢◌, ◌++◌, ℕ, length, take, IfOk, IfErr, IfNone, IfSome, Ok};
 ghost use Rattle.click_capture.specs.Numbers.{word};
 ghost use Rattle.click_capture.specs.Captures.{magic, link_number, header_bytes, FitsHeader, IsHeaderFault};
-ghost use Rattle.click_capture.specs.declared.order.Order.{Order as AnOrder};
-ghost use Rattle.click_capture.specs.declared.header.Header.{Header as AHeader};
-ghost use Rattle.click_capture.specs.declared.header.Resolution.{Resolution as AResolution};
+ghost use Rattle.click_capture.specs.declared.order.Order.{Order};
+ghost use Rattle.click_capture.specs.declared.header.Header.{Header};
+ghost use Rattle.click_capture.specs.declared.header.Resolution.{Resolution};
 
 use crate::fault::HeaderFault;
 use crate::order::Order;
@@ -25,9 +25,9 @@ const MICRO: u32 = 0xa1b2_c3d4;
 
 const NANO: u32 = 0xa1b2_3c4d;
 
-const MICRO_TURNED: u32 = 0xd4c3_b2a1;
+const MICRO_SWAPPED: u32 = 0xd4c3_b2a1;
 
-const NANO_TURNED: u32 = 0x4d3c_b2a1;
+const NANO_SWAPPED: u32 = 0x4d3c_b2a1;
 
 /// The first four bytes of a pcapng file, in either byte order: the type of its section header
 /// block.
@@ -110,19 +110,19 @@ impl Link {
 fn kind_at(bytes: &[u8]) -> Option<((Order, Resolution), &[u8])>
     requires { length bytes.now ≡ 24 }
     ensures some { IfSome result (λ r. (bytes.now ≡ word r.0.0 (magic r.0.1) ++ r.1.now) × (length r.1.now ≡ 20)) }
-    ensures none { IfNone result ((o : AnOrder) (r : AResolution) → take 4 bytes.now ≢ word o (magic r)) }
+    ensures none { IfNone result ((o : Order) (r : Resolution) → take 4 bytes.now ≢ word o (magic r)) }
 {
-    let (number, rest) = Order::Little.word_at(bytes);
+    let (number, rest) = Order::Little.split_u32(bytes);
     if number == MICRO {
         return Some(((Order::Little, Resolution::Micro), rest));
     }
     if number == NANO {
         return Some(((Order::Little, Resolution::Nano), rest));
     }
-    if number == MICRO_TURNED {
+    if number == MICRO_SWAPPED {
         return Some(((Order::Big, Resolution::Micro), rest));
     }
-    if number == NANO_TURNED {
+    if number == NANO_SWAPPED {
         return Some(((Order::Big, Resolution::Nano), rest));
     }
     None
@@ -131,7 +131,7 @@ fn kind_at(bytes: &[u8]) -> Option<((Order, Resolution), &[u8])>
 /// Returns the fault of bytes that do not begin with a magic number.
 fn kind_fault(bytes: &[u8]) -> HeaderFault
     requires len { length bytes.now ≡ 24 }
-    requires none { (o : AnOrder) (r : AResolution) → take 4 bytes.now ≢ word o (magic r) }
+    requires none { (o : Order) (r : Resolution) → take 4 bytes.now ≢ word o (magic r) }
     ensures { IsHeaderFault bytes.now result }
 {
     if bytes.starts_with(&SECTION_HEADER) {
@@ -147,7 +147,7 @@ fn kind_fault(bytes: &[u8]) -> HeaderFault
 pub fn header_of(bytes: &[u8]) -> Result<Header, HeaderFault>
     requires { length bytes.now ≡ 24 }
     ensures ok { IfOk result (λ header. bytes.now ≡ header_bytes header) }
-    ensures only { (h : AHeader) → FitsHeader h → bytes.now ≡ header_bytes h → result ≡ Ok h }
+    ensures only { (h : Header) → FitsHeader h → bytes.now ≡ header_bytes h → result ≡ Ok h }
     ensures fault { IfErr result (IsHeaderFault bytes.now) }
 {
     fields_of(bytes)
@@ -162,15 +162,15 @@ fn fields_of(bytes: &[u8]) -> Result<Header, HeaderFault>
     let Some(((order, resolution), rest)) = kind_at(bytes) else {
         return Err(kind_fault(bytes));
     };
-    let (major, rest) = order.half_at(rest);
-    let (minor, rest) = order.half_at(rest);
+    let (major, rest) = order.split_u16(rest);
+    let (minor, rest) = order.split_u16(rest);
     if major != MAJOR || minor != MINOR {
         return Err(HeaderFault::Version { major, minor });
     }
-    let (zone, rest) = order.word_at(rest);
-    let (accuracy, rest) = order.word_at(rest);
-    let (snap, rest) = order.word_at(rest);
-    let (number, _none) = order.word_at(rest);
+    let (zone, rest) = order.split_u32(rest);
+    let (accuracy, rest) = order.split_u32(rest);
+    let (snap, rest) = order.split_u32(rest);
+    let (number, _none) = order.split_u32(rest);
     let Some(link) = Link::of(number) else {
         return Err(HeaderFault::Link { number });
     };
@@ -190,12 +190,12 @@ pub fn header_bytes(alloc: Global, header: &Header) -> Result<Vec<u8>, AllocErro
 {
     let order = header.order;
     let mut bytes = Vec::with_capacity(alloc, HEADER_LEN)?;
-    bytes.extend_from_slice(&order.word(header.resolution.magic()))?;
-    bytes.extend_from_slice(&order.half(MAJOR))?;
-    bytes.extend_from_slice(&order.half(MINOR))?;
-    bytes.extend_from_slice(&order.word(header.zone))?;
-    bytes.extend_from_slice(&order.word(header.accuracy))?;
-    bytes.extend_from_slice(&order.word(header.snap))?;
-    bytes.extend_from_slice(&order.word(header.link.number()))?;
+    bytes.extend_from_slice(&order.u32_bytes(header.resolution.magic()))?;
+    bytes.extend_from_slice(&order.u16_bytes(MAJOR))?;
+    bytes.extend_from_slice(&order.u16_bytes(MINOR))?;
+    bytes.extend_from_slice(&order.u32_bytes(header.zone))?;
+    bytes.extend_from_slice(&order.u32_bytes(header.accuracy))?;
+    bytes.extend_from_slice(&order.u32_bytes(header.snap))?;
+    bytes.extend_from_slice(&order.u32_bytes(header.link.number()))?;
     Ok(bytes)
 }

@@ -10,4 +10,7 @@ mod record;
 pub use fault::{HeaderFault, TooLong};
 pub use header::{HEADER_LEN, Header, Link, Resolution, header_bytes, header_of};
 pub use order::Order;
-pub use record::{HEAD_LEN, Head, LONGEST_RECORD, Time, head_of, longest, record_bytes};
+pub use record::{
+    MAX_RECORD_BYTES, RECORD_HEADER_LEN, RecordHeader, Time, longest, record_bytes,
+    record_header_of,
+};

@@ -14,7 +14,7 @@ pub enum Order {
 
 impl Order {
     /// Returns the number as four bytes.
-    pub(crate) fn word(self, number: u32) -> [u8; 4]
+    pub(crate) fn u32_bytes(self, number: u32) -> [u8; 4]
         ensures { result ≡ word self number }
     {
         match self {
@@ -24,7 +24,7 @@ impl Order {
     }
 
     /// Returns the number as two bytes.
-    pub(crate) fn half(self, number: u16) -> [u8; 2]
+    pub(crate) fn u16_bytes(self, number: u16) -> [u8; 2]
         ensures { result ≡ half self number }
     {
         match self {
@@ -34,7 +34,7 @@ impl Order {
     }
 
     /// Returns the number in the first four bytes, and the bytes after it.
-    pub(crate) fn word_at(self, bytes: &[u8]) -> (u32, &[u8])
+    pub(crate) fn split_u32(self, bytes: &[u8]) -> (u32, &[u8])
         requires { 4 ≤ length bytes.now }
         ensures parts { bytes.now ≡ word self result.0 ++ result.1.now }
         ensures rest { length result.1.now + 4 ≡ length bytes.now }
@@ -44,7 +44,7 @@ impl Order {
     }
 
     /// Returns the number in the first two bytes, and the bytes after it.
-    pub(crate) fn half_at(self, bytes: &[u8]) -> (u16, &[u8])
+    pub(crate) fn split_u16(self, bytes: &[u8]) -> (u16, &[u8])
         requires { 2 ≤ length bytes.now }
         ensures parts { bytes.now ≡ half self result.0 ++ result.1.now }
         ensures rest { length result.1.now + 2 ≡ length bytes.now }

@@ -9,10 +9,10 @@ use crate::order::Order;
 use std::alloc::{AllocError, Global};
 
 /// The length of a record's head, in bytes.
-pub const HEAD_LEN: usize = 16;
+pub const RECORD_HEADER_LEN: usize = 16;
 
 /// The maximum number of bytes of a packet in any capture (MAXIMUM_SNAPLEN of libpcap).
-pub const LONGEST_RECORD: u32 = 262_144;
+pub const MAX_RECORD_BYTES: u32 = 262_144;
 
 /// The time at which a packet was captured.
 #[derive(Clone, Copy, Debug, PartialEq, Eq)]
@@ -25,7 +25,7 @@ pub struct Time {
 
 /// The head of a record, which comes before the bytes of the packet.
 #[derive(Clone, Copy, Debug, PartialEq, Eq)]
-pub struct Head {
+pub struct RecordHeader {
     pub time: Time,
     /// The number of bytes of the packet that follow.
     pub kept: u32,
@@ -40,8 +40,8 @@ pub fn longest(snap: u32) -> u32
     ensures value { result ≡ longest snap }
     ensures most { result ≤ 262144 }
 {
-    if snap == 0 || snap > LONGEST_RECORD {
-        LONGEST_RECORD
+    if snap == 0 || snap > MAX_RECORD_BYTES {
+        MAX_RECORD_BYTES
     } else {
         snap
     }
@@ -50,23 +50,23 @@ pub fn longest(snap: u32) -> u32
 /// Returns the head with these 16 bytes, or the fault of a record that is too long.
 ///
 /// `header` is the header of the capture.
-pub fn head_of(header: &Header, bytes: &[u8]) -> Result<Head, TooLong>
+pub fn record_header_of(header: &Header, bytes: &[u8]) -> Result<RecordHeader, TooLong>
     requires { length bytes.now ≡ 16 }
     ensures ok { IfOk result (λ head. (bytes.now ≡ head_bytes header.now.order head) × (head.kept ≤ longest header.now.snap)) }
-    ensures fault { IfErr result (λ fault. (head : Head) × (bytes.now ≡ head_bytes header.now.order head) × (head.kept ≡ fault.claimed) × (fault.most ≡ longest header.now.snap) × (fault.most < fault.claimed)) }
+    ensures fault { IfErr result (λ fault. (head : RecordHeader) × (bytes.now ≡ head_bytes header.now.order head) × (head.kept ≡ fault.claimed) × (fault.most ≡ longest header.now.snap) × (fault.most < fault.claimed)) }
 {
     let order = header.order;
-    let (seconds, rest) = order.word_at(bytes);
-    let (fraction, rest) = order.word_at(rest);
-    let (kept, rest) = order.word_at(rest);
-    let (wire, _none) = order.word_at(rest);
+    let (seconds, rest) = order.split_u32(bytes);
+    let (fraction, rest) = order.split_u32(rest);
+    let (kept, rest) = order.split_u32(rest);
+    let (wire, _none) = order.split_u32(rest);
     let most = longest(header.snap);
     if kept > most {
         let claimed = kept;
         return Err(TooLong { claimed, most });
     }
     let time = Time { seconds, fraction };
-    Ok(Head { time, kept, wire })
+    Ok(RecordHeader { time, kept, wire })
 }
 
 /// Returns the bytes of the record of a packet that was kept whole, or fails with out of memory.
@@ -80,11 +80,11 @@ pub fn record_bytes(
     ensures { IfOk result (λ bytes. bytes.items ≡ record_bytes order (whole time packet.now)) }
 {
     let len = packet.len() as u32;
-    let mut bytes = Vec::with_capacity(alloc, HEAD_LEN + packet.len())?;
-    bytes.extend_from_slice(&order.word(time.seconds))?;
-    bytes.extend_from_slice(&order.word(time.fraction))?;
-    bytes.extend_from_slice(&order.word(len))?;
-    bytes.extend_from_slice(&order.word(len))?;
+    let mut bytes = Vec::with_capacity(alloc, RECORD_HEADER_LEN + packet.len())?;
+    bytes.extend_from_slice(&order.u32_bytes(time.seconds))?;
+    bytes.extend_from_slice(&order.u32_bytes(time.fraction))?;
+    bytes.extend_from_slice(&order.u32_bytes(len))?;
+    bytes.extend_from_slice(&order.u32_bytes(len))?;
     bytes.extend_from_slice(packet)?;
     Ok(bytes)
 }

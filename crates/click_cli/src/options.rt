@@ -48,7 +48,7 @@ pub const TEXT: CommandOption = CommandOption {
     id: "text",
     name: OptionName::Short('e'),
     takes: Takes::NeededWord("TEXT"),
-    help: "The configuration of the router",
+    help: "Configuration of the router",
 };
 
 /// Returns the option as an argument of clap.

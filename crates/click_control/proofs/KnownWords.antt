@@ -11,8 +11,8 @@ use Rattle.click_classes.specs.Values.{digits}
 use Rattle.click_classes.proofs.OfNumbers.Decimals.{digits-decimal, is_run-decimal, spelled-decimal}
 use Rattle.click_base.specs.Blanks.{is_blank, without_front, trimmed}
 use Rattle.click_base.proofs.BlanksAround.{first, last, around}
-use Rattle.click_control.specs.declared.direction.Direction.{Direction}
-use Rattle.click_control.specs.declared.direction.Direction.TheVariants as direction
+use Rattle.click_router.specs.declared.check.Access.{Access}
+use Rattle.click_router.specs.declared.check.Access.TheVariants as direction
 use Rattle.click_control.specs.declared.command.Command.TheVariants as command
 use Rattle.click_control.specs.Commands.{ParsedLine, whole, announces, payload_line, parse_line, parse_after, parse_unless_blank, first_word, second_word, third_word, after_word, from_blank, parse_text, parse_check, parse_data, text_command, check_command, longest_payload}
 use Rattle.click_control.specs.LineWords.{AreBlanks, IsGap, IsWord, EndsWord, text_word, check_word, data_word}
@@ -94,41 +94,41 @@ trimmed_around front text back h g e = around front text back h g (λ b rest i. 
 trimmed_none : (blanks : List ℕ) → AreBlanks blanks → trimmed blanks ≡ []
 trimmed_none blanks h = ap (λ l. trimmed l) (sym (append-nil blanks)) ∙ trimmed_around blanks [] [] h refl refl
 
-text_whole : (w : Direction) (handler text : List ℕ) → IsWord handler → parse_text w handler text ≡ whole (text_command w handler text)
+text_whole : (w : Access) (handler text : List ℕ) → IsWord handler → parse_text w handler text ≡ whole (text_command w handler text)
 text_whole w [] text is = absurd (let some = is.0 in omega arith)
 text_whole w (b ∷ handler) text is = refl
 
-check_whole : (w : Direction) (handler : List ℕ) → IsWord handler → parse_check w handler [] ≡ whole (check_command w handler)
+check_whole : (w : Access) (handler : List ℕ) → IsWord handler → parse_check w handler [] ≡ whole (check_command w handler)
 check_whole w [] is = absurd (let some = is.0 in omega arith)
 check_whole w (b ∷ handler) is = refl
 
 -- the meaning of a line that begins with a word of the protocol
-text_said_by : (w : Direction) (rest : List ℕ) → parse_unless_blank (text_word w) rest ≡ parse_text w (first_word rest) (trimmed (after_word rest))
+text_said_by : (w : Access) (rest : List ℕ) → parse_unless_blank (text_word w) rest ≡ parse_text w (first_word rest) (trimmed (after_word rest))
 text_said_by direction.Read rest = refl
 text_said_by direction.Write rest = refl
 
-check_said_by : (w : Direction) (rest : List ℕ) → parse_unless_blank (check_word w) rest ≡ parse_check w (first_word rest) (second_word rest)
+check_said_by : (w : Access) (rest : List ℕ) → parse_unless_blank (check_word w) rest ≡ parse_check w (first_word rest) (second_word rest)
 check_said_by direction.Read rest = refl
 check_said_by direction.Write rest = refl
 
-data_said_by : (w : Direction) (rest : List ℕ) → parse_unless_blank (data_word w) rest ≡ parse_data w (first_word rest) (second_word rest) (third_word rest)
+data_said_by : (w : Access) (rest : List ℕ) → parse_unless_blank (data_word w) rest ≡ parse_data w (first_word rest) (second_word rest) (third_word rest)
 data_said_by direction.Read rest = refl
 data_said_by direction.Write rest = refl
 
-text_word-is : (w : Direction) → IsWord (text_word w)
+text_word-is : (w : Access) → IsWord (text_word w)
 text_word-is direction.Read = (omega arith, refl)
 text_word-is direction.Write = (omega arith, refl)
 
-check_word-is : (w : Direction) → IsWord (check_word w)
+check_word-is : (w : Access) → IsWord (check_word w)
 check_word-is direction.Read = (omega arith, refl)
 check_word-is direction.Write = (omega arith, refl)
 
-data_word-is : (w : Direction) → IsWord (data_word w)
+data_word-is : (w : Access) → IsWord (data_word w)
 data_word-is direction.Read = (omega arith, refl)
 data_word-is direction.Write = (omega arith, refl)
 
 -- a handler, and a text after it
-module _ (w : Direction) (gap handler space text after : List ℕ) (apart : IsGap gap) (word : IsWord handler) (behind : IsGap space) (clean : trimmed text ≡ text) (blank : AreBlanks after) where
+module _ (w : Access) (gap handler space text after : List ℕ) (apart : IsGap gap) (word : IsWord handler) (behind : IsGap space) (clean : trimmed text ≡ text) (blank : AreBlanks after) where
   rest_text : parse_text w (first_word (gap ++ (handler ++ (space ++ (text ++ after))))) (trimmed (after_word (gap ++ (handler ++ (space ++ (text ++ after)))))) ≡ whole (text_command w handler text)
   rest_text =
       let q = gap_parts space (text ++ after) behind in
@@ -144,7 +144,7 @@ module _ (w : Direction) (gap handler space text after : List ℕ) (apart : IsGa
       simp append_assoc e
 
 -- a handler alone
-module _ (w : Direction) (gap handler after : List ℕ) (apart : IsGap gap) (word : IsWord handler) (blank : AreBlanks after) where
+module _ (w : Access) (gap handler after : List ℕ) (apart : IsGap gap) (word : IsWord handler) (blank : AreBlanks after) where
   handler_is : first_word (gap ++ (handler ++ after)) ≡ handler
   handler_is = first_is gap handler after apart.1 word (blanks_part after blank)
 
@@ -198,15 +198,15 @@ digits_read n h =
     let s = spelled-decimal n h in
     rw (r, s) refl
 
-pub payload_line-some : (w : Direction) (handler : List ℕ) (n : ℕ) → 1 ≤ n → n ≤ longest_payload → payload_line w handler (Some n) ≡ announces w handler n
+pub payload_line-some : (w : Access) (handler : List ℕ) (n : ℕ) → 1 ≤ n → n ≤ longest_payload → payload_line w handler (Some n) ≡ announces w handler n
 payload_line-some w handler zero p q = absurd (omega arith)
 payload_line-some w handler (suc n) p q = let t : nat_le (suc n) longest_payload ≡ true = grind (arith, nat_tests) in rw t refl
 
-pub payload_line-many : (w : Direction) (handler : List ℕ) (n : ℕ) → longest_payload < n → payload_line w handler (Some n) ≡ whole command.DataTooLong
+pub payload_line-many : (w : Access) (handler : List ℕ) (n : ℕ) → longest_payload < n → payload_line w handler (Some n) ≡ whole command.DataTooLong
 payload_line-many w handler zero p = absurd (omega arith)
 payload_line-many w handler (suc n) p = let t : nat_le (suc n) longest_payload ≡ false = grind (arith, nat_tests) in rw t refl
 
-module _ (w : Direction) (before gap handler space after : List ℕ) (n : ℕ) (blanks : AreBlanks before) (apart : IsGap gap) (word : IsWord handler) (behind : IsGap space) (blank : AreBlanks after) (small : n < 2 ^ 64) where
+module _ (w : Access) (before gap handler space after : List ℕ) (n : ℕ) (blanks : AreBlanks before) (apart : IsGap gap) (word : IsWord handler) (behind : IsGap space) (blank : AreBlanks after) (small : n < 2 ^ 64) where
   pub parsed-data : parse_line (before ++ data_word w ++ gap ++ handler ++ space ++ decimal n ++ after) ≡ payload_line w handler (Some n)
   parsed-data =
       let tail = space ++ (decimal n ++ after) in

@@ -1,6 +1,6 @@
 -- Lemmas on the bytes that follow a line and its end.
 use Rattle.std.proofs.Common.{◌≡◌, ℕ, ◌<◌, ◌≤◌, List, [], ◌∷◌, ◌++◌, true, false, length, refl, sym, ap, ◌∙◌, append-nil, inl, inr, arith}
-use Rattle.click_control.specs.declared.direction.Direction.{Direction}
+use Rattle.click_router.specs.declared.check.Access.{Access}
 use Rattle.click_control.specs.declared.command.Command.{Command}
 use Rattle.click_control.specs.Commands.{in_line, after_return, over, before_payload, in_payload, ParsedLine, blank, whole, announces, parse_line, is_end, is_last, listed, after_end, after_line, text_command, commands, commands_from, longest_line, HasNoEnd, BeginsNoFeed, IsEndBefore}
 use Rattle.click_control.proofs.StreamCommands.{commands_from-nil, commands_from-over, commands_from-within, commands_from-end, feed_after_return, other_after_return, payload_whole, feed_before_payload, other_before_payload}
@@ -62,12 +62,12 @@ after_last line e more c is end says h = ends_all line e more (whole c) is end s
 
 -- ---- a payload
 
-pub no_feed_before : (w : Direction) (handler payload more : List ℕ) (n : ℕ) → 0 < length payload → BeginsNoFeed payload
+pub no_feed_before : (w : Access) (handler payload more : List ℕ) (n : ℕ) → 0 < length payload → BeginsNoFeed payload
     → commands_from (before_payload w handler n) (payload ++ more) ≡ commands_from (in_payload w handler n []) (payload ++ more)
 no_feed_before w handler [] more n some h = absurd (omega arith)
 no_feed_before w handler (b ∷ bs) more n some h = other_before_payload w handler n b (bs ++ more) h
 
-pub after_payload : (line e payload more : List ℕ) (w : Direction) (handler : List ℕ) (n : ℕ) → IsLineOf line → IsEndBefore e payload
+pub after_payload : (line e payload more : List ℕ) (w : Access) (handler : List ℕ) (n : ℕ) → IsLineOf line → IsEndBefore e payload
     → parse_line line ≡ announces w handler n → length payload ≡ n → 0 < n
     → commands (line ++ (e ++ (payload ++ more))) ≡ text_command w handler payload ∷ commands more
 after_payload line e payload more w handler n is end says len some =

@@ -1,8 +1,8 @@
 -- Lemmas on the lines of replies, as a session writes them.
 use Rattle.std.proofs.Common.{◌≡◌, ℕ, List, [], ◌++◌, append_assoc, sym, ap, ◌∙◌}
 use Rattle.std.specs.Prelude.{codes}
-use Rattle.click_control.specs.declared.direction.Direction.{Direction}
-use Rattle.click_control.specs.declared.direction.Direction.TheVariants as direction
+use Rattle.click_router.specs.declared.check.Access.{Access}
+use Rattle.click_router.specs.declared.check.Access.TheVariants as direction
 use Rattle.click_control.specs.declared.command.Command.{Command}
 use Rattle.click_control.specs.declared.command.Command.TheVariants as command
 use Rattle.click_control.specs.declared.command.Answer.{Answer}
@@ -34,6 +34,6 @@ good_write name = simp append_assoc
 pub read_alike : (name : List ℕ) (a b : Answer) → ((c : Command) → text_of c a ≡ text_of c b) → read_text name a ≡ read_text name b
 read_alike name a b e = e (command.Read name [])
 
-pub done_alike : (w : Direction) (name : List ℕ) (a b : Answer) → ((c : Command) → text_of c a ≡ text_of c b) → done_text w name a ≡ done_text w name b
+pub done_alike : (w : Access) (name : List ℕ) (a b : Answer) → ((c : Command) → text_of c a ≡ text_of c b) → done_text w name a ≡ done_text w name b
 done_alike direction.Read name a b e = e (command.CheckRead name)
 done_alike direction.Write name a b e = e (command.CheckWrite name)

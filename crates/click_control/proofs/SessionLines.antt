@@ -2,8 +2,8 @@
 use Rattle.std.proofs.Common.{◌≡◌, ℕ, ◌+◌, ◌≤◌, ◌<◌, List, [], ◌∷◌, ◌++◌, Bool, true, false, length, get_or, take, drop, ◌-◌, Option, Some, None, refl, sym, ap, ◌∙◌, subst, append_assoc, append-nil, drop-drop, length-drop, length-append, take_all, arith}
 use Rattle.std.specs.Prelude.{if◌then◌else◌}
 use Rattle.std.proofs.lemmas.List.{take_rest, drop_more, drop-append-le, take-append-le}
-use Rattle.click_control.specs.declared.direction.Direction.{Direction}
-use Rattle.click_control.specs.declared.direction.Direction.TheVariants as direction
+use Rattle.click_router.specs.declared.check.Access.{Access}
+use Rattle.click_router.specs.declared.check.Access.TheVariants as direction
 use Rattle.click_control.specs.declared.command.Command.{Command}
 use Rattle.click_control.specs.declared.command.Command.TheVariants as command
 use Rattle.click_control.specs.declared.start.Start.{Start}
@@ -53,7 +53,7 @@ taken_long bytes some long = record {
   last = λ d e h. refl;
 }
 
-text_is_not_last : (w : Direction) (handler text : List ℕ) → is_last (text_command w handler text) ≡ false
+text_is_not_last : (w : Access) (handler text : List ℕ) → is_last (text_command w handler text) ≡ false
 text_is_not_last direction.Read handler text = refl
 text_is_not_last direction.Write handler text = refl
 
@@ -61,7 +61,7 @@ text_is_not_last direction.Write handler text = refl
 ended_bytes : (bytes : List ℕ) (n : ℕ) → n < length bytes → drop n bytes ≡ get_or bytes n 0 ∷ drop (n + 1) bytes
 ended_bytes bytes n q = drop_more bytes n 0 q
 
-pub taken_payload : (bytes : List ℕ) (n : ℕ) (w : Direction) (handler : List ℕ) (count begin : ℕ) → IsEnded bytes n → announces w handler count ≡ parse_line (take n bytes)
+pub taken_payload : (bytes : List ℕ) (n : ℕ) (w : Access) (handler : List ℕ) (count begin : ℕ) → IsEnded bytes n → announces w handler count ≡ parse_line (take n bytes)
     → 0 < count → begin ≡ n + end_length (drop n bytes) → begin + count ≤ length bytes
     → IsTaken bytes (Some (text_command w handler (take count (drop begin bytes)))) (begin + count) (in_line [])
 taken_payload bytes n w handler count begin ended is some at all =
@@ -87,7 +87,7 @@ taken_payload bytes n w handler count begin ended is some at all =
           let bad : true ≡ false = sym h ∙ not_last in cc;
     }
 
-pub partial_payload : (bytes : List ℕ) (n : ℕ) (w : Direction) (handler : List ℕ) (count begin : ℕ) → IsEnded bytes n → announces w handler count ≡ parse_line (take n bytes)
+pub partial_payload : (bytes : List ℕ) (n : ℕ) (w : Access) (handler : List ℕ) (count begin : ℕ) → IsEnded bytes n → announces w handler count ≡ parse_line (take n bytes)
     → begin ≡ n + end_length (drop n bytes) → length bytes < begin + count
     → IsPartial bytes n (begin + count)
 partial_payload bytes n w handler count begin ended is at few =

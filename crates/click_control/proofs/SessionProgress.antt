@@ -15,15 +15,12 @@ use Rattle.click_control.specs.declared.serving.ServeFault.{ServeFault}
 use Rattle.click_control.specs.declared.serving.ServeFault.TheVariants as fault
 use Rattle.click_control.specs.Commands.{commands, in_line, is_last}
 use Rattle.click_control.specs.Taking.{Pending, fresh, to_come, Gives, GivesOne}
-use Rattle.click_control.specs.Peers.{Input, Output, HasRead, HasWritten}
+use Rattle.click_streams.specs.Peers.{Input, Output, HasRead, HasWritten}
 use Rattle.click_control.specs.ReplyText.{greeting, text_of}
 use Rattle.click_control.specs.Serving.{Answered, Asked, nothing, then_one, call_of, replies, most_reads, Course, IsWhole, IsFront, EndsWith, GoesOn, Ends, Serves, Turned, not_yet, once_more, WentThrough, NoneRefused, ServesTurns}
 use Rattle.click_control.specs.kept.Going.{Written, TakesIn, ending_of, SoFar, Goes}
+use Rattle.click_streams.proofs.Peers.{or-false}
 use Rattle.click_control.proofs.StreamCommands.{commands_from-nil, to_come-fed}
-
-pub or-false : (b : Bool) → (b || false) ≡ b
-or-false true = refl
-or-false false = refl
 
 pub commands-nil : commands [] ≡ []
 commands-nil = commands_from-nil (in_line [])

@@ -5,7 +5,7 @@ use Rattle.std.proofs.lemmas.List.{drop_more}
 use Rattle.click_control.specs.declared.command.Command.TheVariants as command
 use Rattle.click_control.specs.Commands.{Reading, in_line, after_return, over, completed, after_byte, completed_in, after_byte_in, commands_from, parse_line, is_end, listed, after_line, longest_line, text_command, before_payload, in_payload, payload_after, completed_payload, after_payload_byte, HasNoEnd}
 use Rattle.click_control.specs.Taking.{Pending, to_come, fed}
-use Rattle.click_control.specs.declared.direction.Direction.{Direction}
+use Rattle.click_router.specs.declared.check.Access.{Access}
 use Rattle.click_control.specs.kept.Lines.{end_length}
 
 -- the position of the reading after these bytes
@@ -165,27 +165,27 @@ to_come-fed s piece more = fed_from s.from s.bytes piece more
 
 -- ---- a payload
 
-completed_before : (w : Direction) (handler came : List ℕ) (n x : ℕ) → 1 < n → completed_payload w handler n came x ≡ []
+completed_before : (w : Access) (handler came : List ℕ) (n x : ℕ) → 1 < n → completed_payload w handler n came x ≡ []
 completed_before w handler came n x q = rw (lt-leb n 1 q) refl
 
-after_before : (w : Direction) (handler came : List ℕ) (n x : ℕ) → 1 < n → after_payload_byte w handler n came x ≡ in_payload w handler (n - 1) (came ++ x ∷ [])
+after_before : (w : Access) (handler came : List ℕ) (n x : ℕ) → 1 < n → after_payload_byte w handler n came x ≡ in_payload w handler (n - 1) (came ++ x ∷ [])
 after_before w handler came n x q = rw (lt-leb n 1 q) refl
 
 -- one byte of a payload that is not the last one
-pub payload_step : (w : Direction) (handler came : List ℕ) (n x : ℕ) (ys : List ℕ) → 1 < n
+pub payload_step : (w : Access) (handler came : List ℕ) (n x : ℕ) (ys : List ℕ) → 1 < n
     → commands_from (in_payload w handler n came) (x ∷ ys) ≡ commands_from (in_payload w handler (n - 1) (came ++ x ∷ [])) ys
 unfolding commands_from
 payload_step w handler came n x ys q =
     ap (λ cs. cs ++ commands_from (after_payload_byte w handler n came x) ys) (completed_before w handler came n x q)
     ∙ ap (λ r. commands_from r ys) (after_before w handler came n x q)
 
-payload_last : (w : Direction) (handler came : List ℕ) (x : ℕ) (ys : List ℕ)
+payload_last : (w : Access) (handler came : List ℕ) (x : ℕ) (ys : List ℕ)
     → commands_from (in_payload w handler 1 came) (x ∷ ys) ≡ text_command w handler (came ++ x ∷ []) ∷ commands_from (in_line []) ys
 unfolding commands_from
 payload_last w handler came x ys = refl
 
 -- all the bytes of a payload
-pub payload_whole : (w : Direction) (handler came xs ys : List ℕ) (n : ℕ) → length xs ≡ n → 0 < n
+pub payload_whole : (w : Access) (handler came xs ys : List ℕ) (n : ℕ) → length xs ≡ n → 0 < n
     → commands_from (in_payload w handler n came) (xs ++ ys) ≡ text_command w handler (came ++ xs) ∷ commands_from (in_line []) ys
 payload_whole w handler came [] ys n e q = absurd (omega (arith, e))
 payload_whole w handler came (x ∷ []) ys n e q =
@@ -197,40 +197,40 @@ payload_whole w handler came (x ∷ y ∷ xs) ys n e q =
     ∙ ap (λ t. text_command w handler t ∷ commands_from (in_line []) ys) (append_assoc came (x ∷ []) (y ∷ xs))
 
 -- the first bytes of those that follow are a payload
-pub payload_cut : (w : Direction) (handler xs more : List ℕ) (n : ℕ) → 0 < n → n ≤ length xs
+pub payload_cut : (w : Access) (handler xs more : List ℕ) (n : ℕ) → 0 < n → n ≤ length xs
     → commands_from (in_payload w handler n []) (xs ++ more) ≡ text_command w handler (take n xs) ∷ commands_from (in_line []) (drop n xs ++ more)
 payload_cut w handler xs more n q within =
     ap (λ l. commands_from (in_payload w handler n []) l) (ap (λ l. l ++ more) (sym (take-append-drop n xs)) ∙ append_assoc (take n xs) (drop n xs) more)
     ∙ payload_whole w handler [] (take n xs) (drop n xs ++ more) n (length-take-le n xs within) q
 
 -- an incomplete payload
-pub payload_part : (w : Direction) (handler came xs : List ℕ) (n : ℕ) → length xs < n → commands_from (in_payload w handler n came) xs ≡ []
+pub payload_part : (w : Access) (handler came xs : List ℕ) (n : ℕ) → length xs < n → commands_from (in_payload w handler n came) xs ≡ []
 payload_part w handler came [] n q = commands_from-nil (in_payload w handler n came)
 payload_part w handler came (x ∷ xs) n q =
     payload_step w handler came n x xs (omega arith) ∙ payload_part w handler (came ++ x ∷ []) xs (n - 1) (omega arith)
 
 -- ---- a payload after the end of its line
 
-pub feed_before_payload : (w : Direction) (handler : List ℕ) (n b : ℕ) (ys : List ℕ) → eqb b 10 ≡ true
+pub feed_before_payload : (w : Access) (handler : List ℕ) (n b : ℕ) (ys : List ℕ) → eqb b 10 ≡ true
     → commands_from (before_payload w handler n) (b ∷ ys) ≡ commands_from (in_payload w handler n []) ys
 unfolding commands_from
 feed_before_payload w handler n b ys h = rw h refl
 
-pub other_before_payload : (w : Direction) (handler : List ℕ) (n b : ℕ) (ys : List ℕ) → eqb b 10 ≡ false
+pub other_before_payload : (w : Access) (handler : List ℕ) (n b : ℕ) (ys : List ℕ) → eqb b 10 ≡ false
     → commands_from (before_payload w handler n) (b ∷ ys) ≡ commands_from (in_payload w handler n []) (b ∷ ys)
 unfolding commands_from
 other_before_payload w handler n b ys h = rw h refl
 
-after_no_return : (w : Direction) (handler : List ℕ) (n e : ℕ) (ys : List ℕ) → eqb e 13 ≡ false
+after_no_return : (w : Access) (handler : List ℕ) (n e : ℕ) (ys : List ℕ) → eqb e 13 ≡ false
     → commands_from (payload_after w handler n e) ys ≡ commands_from (in_payload w handler n []) ys
 after_no_return w handler n e ys h = rw h refl
 
-after_a_return : (w : Direction) (handler : List ℕ) (n e : ℕ) (ys : List ℕ) → eqb e 13 ≡ true
+after_a_return : (w : Access) (handler : List ℕ) (n e : ℕ) (ys : List ℕ) → eqb e 13 ≡ true
     → commands_from (payload_after w handler n e) ys ≡ commands_from (before_payload w handler n) ys
 after_a_return w handler n e ys h = rw h refl
 
 -- a line end of one byte, after which a byte comes
-end_of_one : (w : Direction) (handler : List ℕ) (n e b : ℕ) (ys : List ℕ) → (eqb e 13 && eqb b 10) ≡ false
+end_of_one : (w : Access) (handler : List ℕ) (n e b : ℕ) (ys : List ℕ) → (eqb e 13 && eqb b 10) ≡ false
     → commands_from (payload_after w handler n e) (b ∷ ys) ≡ commands_from (in_payload w handler n []) (b ∷ ys)
 end_of_one w handler n e b ys h = elim (cases_Bool (eqb e 13)) [
   | inl r ↦
@@ -239,7 +239,7 @@ end_of_one w handler n e b ys h = elim (cases_Bool (eqb e 13)) [
   | inr r ↦ after_no_return w handler n e (b ∷ ys) r
 ]
 
-end_of_two : (w : Direction) (handler : List ℕ) (n e b : ℕ) (ys : List ℕ) → (eqb e 13 && eqb b 10) ≡ true
+end_of_two : (w : Access) (handler : List ℕ) (n e b : ℕ) (ys : List ℕ) → (eqb e 13 && eqb b 10) ≡ true
     → commands_from (payload_after w handler n e) (b ∷ ys) ≡ commands_from (in_payload w handler n []) ys
 end_of_two w handler n e b ys h = elim (cases_Bool (eqb e 13)) [
   | inl r ↦
@@ -256,7 +256,7 @@ end_length_two : (e b : ℕ) (bs : List ℕ) → (eqb e 13 && eqb b 10) ≡ true
 end_length_two e b bs h = rw h refl
 
 -- a line end, and a payload of n bytes after it
-pub payload_after_end : (w : Direction) (handler : List ℕ) (n e : ℕ) (rest more : List ℕ) → 0 < n → end_length (e ∷ rest) + n ≤ length (e ∷ rest)
+pub payload_after_end : (w : Access) (handler : List ℕ) (n e : ℕ) (rest more : List ℕ) → 0 < n → end_length (e ∷ rest) + n ≤ length (e ∷ rest)
     → commands_from (payload_after w handler n e) (rest ++ more)
     ≡ text_command w handler (take n (drop (end_length (e ∷ rest)) (e ∷ rest))) ∷ commands_from (in_line []) (drop n (drop (end_length (e ∷ rest)) (e ∷ rest)) ++ more)
 payload_after_end w handler n e [] more q within = absurd (omega arith)
@@ -270,14 +270,14 @@ payload_after_end w handler n e (b ∷ bs) more q within = elim (cases_Bool (eqb
 ]
 
 -- too few bytes after the end of a line that announced a payload
-pub payload_short : (w : Direction) (handler : List ℕ) (n e : ℕ) (ys : List ℕ) → length ys < n → commands_from (payload_after w handler n e) ys ≡ []
+pub payload_short : (w : Access) (handler : List ℕ) (n e : ℕ) (ys : List ℕ) → length ys < n → commands_from (payload_after w handler n e) ys ≡ []
 payload_short w handler n e [] q = commands_from-nil (payload_after w handler n e)
 payload_short w handler n e (b ∷ bs) q = elim (cases_Bool (eqb e 13 && eqb b 10)) [
   | inl h ↦ end_of_two w handler n e b bs h ∙ payload_part w handler [] bs n (omega arith)
   | inr h ↦ end_of_one w handler n e b bs h ∙ payload_part w handler [] (b ∷ bs) n q
 ]
 
-pub payload_waits : (w : Direction) (handler : List ℕ) (n e : ℕ) (rest more : List ℕ) → length (e ∷ rest) + length more < end_length (e ∷ rest) + n
+pub payload_waits : (w : Access) (handler : List ℕ) (n e : ℕ) (rest more : List ℕ) → length (e ∷ rest) + length more < end_length (e ∷ rest) + n
     → commands_from (payload_after w handler n e) (rest ++ more) ≡ []
 payload_waits w handler n e [] more q = payload_short w handler n e more (omega arith)
 payload_waits w handler n e (b ∷ bs) more q = elim (cases_Bool (eqb e 13 && eqb b 10)) [

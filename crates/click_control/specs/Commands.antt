@@ -3,8 +3,8 @@ use Rattle.std.specs.Prelude.{◌≡◌, ◌⊎◌, ℕ, zero, suc, ◌-◌, Lis
 use Rattle.std.specs.Str.{str_eq_ignore_ascii_case}
 use Rattle.click_base.specs.Blanks.{is_blank, without_front, trimmed}
 use Rattle.click_classes.specs.Values.{digits}
-use Rattle.click_control.specs.declared.direction.Direction.{Direction}
-use Rattle.click_control.specs.declared.direction.Direction.TheVariants as direction
+use Rattle.click_router.specs.declared.check.Access.{Access}
+use Rattle.click_router.specs.declared.check.Access.TheVariants as direction
 use Rattle.click_control.specs.declared.command.Command.{Command}
 use Rattle.click_control.specs.declared.command.Command.TheVariants as command
 
@@ -42,37 +42,37 @@ longest_payload = 1048576
 pub data ParsedLine : Type 0 where
   blank : ParsedLine
   whole : Command → ParsedLine
-  announces : Direction → List ℕ → ℕ → ParsedLine
+  announces : Access → List ℕ → ℕ → ParsedLine
 
 -- the command that reads or writes a handler with a text
-abbrev pub text_command : Direction → List ℕ → List ℕ → Command
+abbrev pub text_command : Access → List ℕ → List ℕ → Command
 text_command direction.Read handler text = command.Read handler text
 text_command direction.Write handler text = command.Write handler text
 
-abbrev pub check_command : Direction → List ℕ → Command
+abbrev pub check_command : Access → List ℕ → Command
 check_command direction.Read handler = command.CheckRead handler
 check_command direction.Write handler = command.CheckWrite handler
 
 -- a line of `READ` or `WRITE`: a handler, and a text
-abbrev pub parse_text : Direction → List ℕ → List ℕ → ParsedLine
+abbrev pub parse_text : Access → List ℕ → List ℕ → ParsedLine
 parse_text w [] text = whole command.Syntax
 parse_text w (b ∷ handler) text = whole (text_command w (b ∷ handler) text)
 
 -- a line of `CHECKREAD` or `CHECKWRITE`: a handler, and no second word
-abbrev pub parse_check : Direction → List ℕ → List ℕ → ParsedLine
+abbrev pub parse_check : Access → List ℕ → List ℕ → ParsedLine
 parse_check w [] second = whole command.Syntax
 parse_check w (b ∷ handler) [] = whole (check_command w (b ∷ handler))
 parse_check w (b ∷ handler) (c ∷ second) = whole command.Syntax
 
 -- a line that announces a payload of this length; with length 0 it is a whole command
-abbrev pub payload_line : Direction → List ℕ → Option ℕ → ParsedLine
+abbrev pub payload_line : Access → List ℕ → Option ℕ → ParsedLine
 payload_line w handler None = whole command.Syntax
 payload_line w handler (Some zero) = whole (text_command w handler [])
 payload_line w handler (Some (suc n)) = if nat_le (suc n) longest_payload then announces w handler (suc n) else whole command.DataTooLong
 
 -- a line of `READDATA` or `WRITEDATA`: a handler, the payload's length in decimal digits, and no
 -- third word
-abbrev pub parse_data : Direction → List ℕ → List ℕ → List ℕ → ParsedLine
+abbrev pub parse_data : Access → List ℕ → List ℕ → List ℕ → ParsedLine
 parse_data w handler count [] = payload_line w handler (digits count)
 parse_data w handler count (b ∷ third) = whole command.Syntax
 
@@ -120,8 +120,8 @@ is_last (command.Unknown word) = false
 pub data Reading : Type 0 where
   in_line : List ℕ → Reading
   after_return : Reading
-  before_payload : Direction → List ℕ → ℕ → Reading
-  in_payload : Direction → List ℕ → ℕ → List ℕ → Reading
+  before_payload : Access → List ℕ → ℕ → Reading
+  in_payload : Access → List ℕ → ℕ → List ℕ → Reading
   over : Reading
 
 -- LF and CR end a line
@@ -145,7 +145,7 @@ abbrev pub after_end : ℕ → Reading
 after_end b = if nat_eq b 13 then after_return else in_line []
 
 -- the position after the end of a line that announced a payload
-abbrev pub payload_after : Direction → List ℕ → ℕ → ℕ → Reading
+abbrev pub payload_after : Access → List ℕ → ℕ → ℕ → Reading
 payload_after w handler n b = if nat_eq b 13 then before_payload w handler n else in_payload w handler n []
 
 -- the position after a line with this meaning, whose end has this first byte
@@ -161,7 +161,7 @@ completed_in line b =
 
 -- the command that the next byte of a payload completes: n bytes are still to come, and this is the
 -- last one
-abbrev pub completed_payload : Direction → List ℕ → ℕ → List ℕ → ℕ → List Command
+abbrev pub completed_payload : Access → List ℕ → ℕ → List ℕ → ℕ → List Command
 completed_payload w handler n came b = if nat_le n 1 then text_command w handler (came ++ b ∷ []) ∷ [] else []
 
 abbrev pub completed : Reading → ℕ → List Command
@@ -177,7 +177,7 @@ after_byte_in line b =
     if is_end b then after_line (parse_line line) b else if nat_le longest_line (length line) then over else in_line (line ++ b ∷ [])
 
 -- the position after the next byte of a payload: after its last byte a line begins
-abbrev pub after_payload_byte : Direction → List ℕ → ℕ → List ℕ → ℕ → Reading
+abbrev pub after_payload_byte : Access → List ℕ → ℕ → List ℕ → ℕ → Reading
 after_payload_byte w handler n came b = if nat_le n 1 then in_line [] else in_payload w handler (n - 1) (came ++ b ∷ [])
 
 abbrev pub after_byte : Reading → ℕ → Reading

@@ -1,8 +1,6 @@
 pub mod RouterPort
 pub mod Commands
-pub mod Devices
 pub mod LineWords
-pub mod Peers
 pub mod ReplyText
 pub mod Serving
 pub mod Taking

@@ -2,8 +2,8 @@
 use Rattle.std.specs.Prelude.{◌≡◌, ℕ, ◌<◌, List, [], ◌∷◌, length, true, not, codes}
 use Rattle.std.specs.List.{list_all}
 use Rattle.click_base.specs.Blanks.{is_blank}
-use Rattle.click_control.specs.declared.direction.Direction.{Direction}
-use Rattle.click_control.specs.declared.direction.Direction.TheVariants as direction
+use Rattle.click_router.specs.declared.check.Access.{Access}
+use Rattle.click_router.specs.declared.check.Access.TheVariants as direction
 
 abbrev pub AreBlanks : List ℕ → Type 0
 AreBlanks bs = list_all is_blank bs ≡ true
@@ -22,16 +22,16 @@ EndsWord [] = Unit {0}
 EndsWord (b ∷ bs) = is_blank b ≡ true
 
 -- the first word of a line that reads or writes a handler with a text
-abbrev pub text_word : Direction → List ℕ
+abbrev pub text_word : Access → List ℕ
 text_word direction.Read = codes "READ"
 text_word direction.Write = codes "WRITE"
 
 -- the first word of a line that asks whether a handler can be read or written
-abbrev pub check_word : Direction → List ℕ
+abbrev pub check_word : Access → List ℕ
 check_word direction.Read = codes "CHECKREAD"
 check_word direction.Write = codes "CHECKWRITE"
 
 -- the first word of a line that announces a payload
-abbrev pub data_word : Direction → List ℕ
+abbrev pub data_word : Access → List ℕ
 data_word direction.Read = codes "READDATA"
 data_word direction.Write = codes "WRITEDATA"

@@ -10,8 +10,8 @@ use Rattle.click_router.specs.FaultText as config
 use Rattle.click_base.specs.Dotted.{is_dot}
 use Rattle.click_control.specs.declared.port.AskFault.{AskFault}
 use Rattle.click_control.specs.declared.port.AskFault.TheVariants as ask
-use Rattle.click_control.specs.declared.direction.Direction.{Direction}
-use Rattle.click_control.specs.declared.direction.Direction.TheVariants as direction
+use Rattle.click_router.specs.declared.check.Access.{Access}
+use Rattle.click_router.specs.declared.check.Access.TheVariants as direction
 use Rattle.click_control.specs.declared.command.Command.{Command}
 use Rattle.click_control.specs.declared.command.Command.TheVariants as command
 use Rattle.click_control.specs.declared.command.Answer.{Answer}
@@ -30,17 +30,17 @@ data_text bytes = codes "DATA " ++ decimal (length bytes) ++ codes "\r\n" ++ byt
 
 -- the lines of a fault that a handler or a configuration has: the handler's name, and the fault's
 -- text
-abbrev pub error_text : Direction → List ℕ → List ℕ → List ℕ
+abbrev pub error_text : Access → List ℕ → List ℕ → List ℕ
 error_text direction.Read handler fault = quoting (codes "520-Read handler ") handler (codes " error:") ++ codes "520 " ++ fault ++ codes "\r\n"
 error_text direction.Write handler fault = quoting (codes "520-Write handler ") handler (codes " error:") ++ codes "520 " ++ fault ++ codes "\r\n"
 
 -- the first line of a successful read, or the line of a successful write or check
-abbrev pub good_text : Direction → List ℕ → List ℕ
+abbrev pub good_text : Access → List ℕ → List ℕ
 good_text direction.Read handler = quoting (codes "200 Read handler ") handler (codes " OK")
 good_text direction.Write handler = quoting (codes "200 Write handler ") handler (codes " OK")
 
 -- the reason why a read or a write was refused
-abbrev pub refused_text : Direction → List ℕ → Refusal → List ℕ
+abbrev pub refused_text : Access → List ℕ → Refusal → List ℕ
 refused_text w handler refusal.NoElement = quoting (codes "510 No element named ") (before_last is_dot handler) []
 refused_text w handler refusal.NoHandler = quoting (codes "511 No handler named ") handler []
 refused_text direction.Read handler refusal.WrongWay = quoting (codes "530 Handler ") handler (codes " write-only")
@@ -54,7 +54,7 @@ failed_text ask.NoMemory = codes "520 Out of memory\r\n"
 failed_text ask.HistoryFull = codes "520 History full\r\n"
 
 -- the denial of a command that a read-only session may not make; a read is never denied
-abbrev pub denied_text : Direction → List ℕ → List ℕ
+abbrev pub denied_text : Access → List ℕ → List ℕ
 denied_text direction.Read handler = []
 denied_text direction.Write handler = quoting (codes "530 Permission denied for ") handler []
 
@@ -72,7 +72,7 @@ read_text handler (answer.Failed f) = failed_text f
 read_text handler answer.NoCall = denied_text direction.Read handler
 
 -- the answer to a write, or to the question whether a handler can be read or written
-abbrev pub done_text : Direction → List ℕ → Answer → List ℕ
+abbrev pub done_text : Access → List ℕ → Answer → List ℕ
 done_text w handler (answer.Replied (reply.Value bytes)) = []
 done_text w handler (answer.Replied reply.Done) = good_text w handler
 done_text w handler (answer.Replied (reply.Refused why)) = refused_text w handler why

@@ -1,4 +1,5 @@
--- A whole session: the calls that it made, and the bytes that it wrote.
+-- A whole session: the calls that it made through its port (what answers them, such as a router),
+-- and the bytes that it wrote.
 use Rattle.std.specs.Prelude.{◌≡◌, ◌⊎◌, ℕ, ◌+◌, ◌≤◌, ◌<◌, List, [], ◌∷◌, ◌++◌, length, All, Bool, true, false, Option, Some, None, Result, Ok, Err, if◌then◌else◌}
 use Rattle.std.specs.Io.KnownBytes.{IsAtEnd}
 use Rattle.click_router.specs.declared.call.Call.{Call}
@@ -14,7 +15,7 @@ use Rattle.click_control.specs.declared.serving.Ended.TheVariants as ended
 use Rattle.click_control.specs.declared.serving.ServeFault.{ServeFault}
 use Rattle.click_control.specs.declared.serving.ServeFault.TheVariants as fault
 use Rattle.click_control.specs.Commands.{commands, is_last}
-use Rattle.click_control.specs.Peers.{Input, Output, HasRead, HasWritten}
+use Rattle.click_streams.specs.Peers.{Input, Output, HasRead, HasWritten}
 use Rattle.click_control.specs.ReplyText.{greeting, text_of}
 
 -- The call that a command makes. A read-only session makes none for a write, nor for the question
@@ -30,13 +31,14 @@ call_of readonly command.LineTooLong = None
 call_of readonly command.DataTooLong = None
 call_of readonly (command.Unknown word) = None
 
--- a port's result, as an answer
+-- The answer to a command whose call had this result: the port's reply, or its fault.
 abbrev pub answer_of : Result Reply AskFault → Answer
 answer_of (Ok r) = answer.Replied r
 answer_of (Err f) = answer.Failed f
 
--- The effect of a call on a port whose calls act as `asks` says: the port before it, the call, the
--- answer, and the port after it. If there is no call, the port is unchanged.
+-- The effect of a command on a port: the port before it, the command's call, the answer, and the
+-- port after it. `asks` relates the port before a call, the call, its result and the port after it.
+-- If the command makes no call, the port is unchanged.
 abbrev pub Answered : {P : Type 0} → (P → Call → Result Reply AskFault → P → Type 0) → P → Option Call → Answer → P → Type 0
 Answered asks p None a q = (a ≡ answer.NoCall) × (q ≡ p)
 Answered asks p (Some c) a q = (r : Result Reply AskFault) × asks p c r q × (a ≡ answer_of r)
@@ -47,16 +49,18 @@ pub data Asked {P : Type 0} (asks : P → Call → Result Reply AskFault → P �
   then_one : (p mid q : P) (cs : List Command) (answers : List Answer) (c : Command) (a : Answer) →
       Asked asks readonly p cs answers mid → Answered asks mid (call_of readonly c) a q → Asked asks readonly p (cs ++ c ∷ []) (answers ++ a ∷ []) q
 
--- the replies to commands with these answers
+-- The bytes that a session writes for commands with these answers: the text of each reply, in
+-- order.
 abbrev pub replies : List Command → List Answer → List ℕ
 replies [] answers = []
 replies (c ∷ cs) [] = []
 replies (c ∷ cs) (a ∷ answers) = text_of c a ++ replies cs answers
 
--- the maximum number of reads of a session, if its caller sets no other
+-- The maximum number of reads of a session whose caller sets no maximum.
 abbrev pub most_reads : ℕ
 most_reads = 4294967295
 
+-- The last of these commands is this one.
 abbrev pub EndsWith : List Command → Command → Type 0
 EndsWith cs c = (front : List Command) × (cs ≡ front ++ c ∷ [])
 
@@ -71,8 +75,8 @@ GoesOn cs = All (λ c. is_last c ≡ false) cs
 -- What a session did:
 -- `input`, `reads`, `read_failed`: the bytes that it read, the number of reads that did not fail,
 -- and whether a read failed.
--- `taken`, `more`, `answers`: the commands that it took up, the further commands that it had read,
--- and the answers to those taken up.
+-- `taken`, `answers`: the commands that it took up (began to answer), and the answers to them.
+-- `more`: the commands that it had read after these and did not take up.
 -- `output`, `write_failed`: the bytes that it wrote, and whether a write failed.
 pub record Course : Type 0 where
   pub input : List ℕ
@@ -84,7 +88,7 @@ pub record Course : Type 0 where
   pub output : List ℕ
   pub write_failed : Bool
 
--- every command that was read is answered, and all replies are written
+-- Every command that was read was taken up and answered, and all replies are written.
 abbrev pub IsWhole : Course → Type 0
 IsWhole course = (course.more ≡ []) × (course.output ≡ greeting ++ replies course.taken course.answers)
 
@@ -102,15 +106,16 @@ abbrev pub StandsBeforeOne : Course → Type 0
 StandsBeforeOne course =
     ((c : Command) × (rest : List Command) × (course.more ≡ c ∷ rest)) × (course.output ≡ greeting ++ replies course.taken course.answers)
 
--- The session reads no more of its input. Either a read failed before the maximum number of reads
--- was made, or exactly that number was made, with at least as many bytes in all.
+-- The session reads no more of its input, for one of two reasons. A read failed after fewer than
+-- `most` reads that did not fail. Or exactly `most` reads were made and none failed; together they
+-- returned at least `most` bytes.
 abbrev pub ReadsNoMore : ℕ → Course → Type 0
 ReadsNoMore most course =
     ((course.read_failed ≡ true) × (course.reads < most))
     ⊎ ((course.read_failed ≡ false) × (course.reads ≡ most) × (most ≤ length course.input))
 
--- What holds of a session of at most `most` reads by the way in which it ended, and with the source
--- that it left.
+-- What holds of a session of at most `most` reads, depending on how it ended. `left` is its source
+-- afterwards.
 abbrev pub Ends : ℕ → Result Ended ServeFault → Course → Input → Type 0
 Ends most (Ok ended.Quit) course left =
     IsWhole course × EndsWith course.taken command.Quit × (course.read_failed ≡ false) × (course.write_failed ≡ false)
@@ -127,8 +132,9 @@ Ends most (Err fault.WriteFailed) course left =
 Ends most (Err fault.NoMemory) course left =
     IsFront course × (course.read_failed ≡ false) × (course.write_failed ≡ false)
 
--- A session with a port, a source and a sink, each before and after it. It makes at most `most`
--- reads, and its turns went as `went` says for the result and the course.
+-- A session with a port, a source and a sink: `old`, `had` and `held` before it, and `new`, `left`
+-- and `holds` after it. It makes at most `most` reads. Its turns went as `went` says for the result
+-- and the course; a turn is the permission to take up a command.
 pub record ServesSo {P : Type 0} (asks : P → Call → Result Reply AskFault → P → Type 0) (readonly : Bool) (most : ℕ) (went : Result Ended ServeFault → Course → Type 0)
     (old new : P) (had left : Input) (held holds : Output) (result : Result Ended ServeFault) : Type 0 where
   pub course : Course
@@ -140,7 +146,7 @@ pub record ServesSo {P : Type 0} (asks : P → Call → Result Reply AskFault �
   pub ends : Ends most result course left
   pub turned : went result course
 
--- no turn was refused
+-- No turn was refused: the session did not end with `GateClosed`.
 abbrev pub NoneRefused : Result Ended ServeFault → Course → Type 0
 NoneRefused (Ok ended.Quit) course = Unit {0}
 NoneRefused (Ok ended.TooLong) course = Unit {0}
@@ -148,8 +154,8 @@ NoneRefused (Ok ended.EndOfInput) course = Unit {0}
 NoneRefused (Ok ended.GateClosed) course = ⊥
 NoneRefused (Err f) course = Unit {0}
 
--- A session of at most 4,294,967,295 reads, none of whose turns is refused: it never ends at a
--- closed gate.
+-- A session of at most 4,294,967,295 reads, none of whose turns is refused: it never ends with
+-- `GateClosed`.
 abbrev pub Serves : {P : Type 0} → (P → Call → Result Reply AskFault → P → Type 0) → Bool → P → P → Input → Input → Output → Output
     → Result Ended ServeFault → Type 0
 Serves asks readonly old new had left held holds result =
@@ -157,25 +163,26 @@ Serves asks readonly old new had left held holds result =
 
 -- ---- a session's turns
 
--- The turns went from one state to another through n commands, from the first to the nth. Each turn
--- was asked for and given, and then it was reported that its command is answered.
+-- The object that gives the turns went from one state to another through n commands, the first to
+-- the nth. For each command the turn was asked for and given (`turn` with `true`). Then it was
+-- reported that the command is answered (`done`).
 pub data Turned {T : Type 0} (turn : T → ℕ → Bool → T → Type 0) (done : T → ℕ → T → Type 0) : T → ℕ → T → Type 0 where
   not_yet : (t : T) → Turned turn done t 0 t
   once_more : (t mid given new : T) (n : ℕ) →
       Turned turn done t n mid → turn mid (n + 1) true given → done given (n + 1) new → Turned turn done t (n + 1) new
 
--- The turns of a session that stopped early. Either they went through all commands taken up, and
--- the replies to these are written, if there are any. Or the turn of the last command was given,
--- and it was not reported that this command is answered.
+-- The turns of a session that stopped early. Either every command taken up had its turn and was
+-- reported as answered, and the replies are written if there was a command. Or every command except
+-- the last had its turn and was reported as answered, and the last had its turn only.
 abbrev pub BreaksOff : {T : Type 0} → (T → ℕ → Bool → T → Type 0) → (T → ℕ → T → Type 0) → T → T → Course → Type 0
 BreaksOff turn done was is course =
     (Turned turn done was (length course.taken) is
     × ((course.taken ≡ []) ⊎ (course.output ≡ greeting ++ replies course.taken course.answers)))
     ⊎ ((n : ℕ) × (mid : _) × (length course.taken ≡ n + 1) × Turned turn done was n mid × turn mid (n + 1) true is)
 
--- The turns of a session, by the way in which it ended. They went through all commands taken up. At
--- a closed gate the turn of the next command was then asked for and refused. For a failed write,
--- and for out of memory, `BreaksOff` says how they went.
+-- The turns of a session, depending on how it ended. Every command taken up had its turn and was
+-- reported as answered. At `GateClosed` the turn of the next command was then asked for and
+-- refused. For a failed write, and for out of memory, `BreaksOff` says how the turns went.
 abbrev pub WentThrough : {T : Type 0} → (T → ℕ → Bool → T → Type 0) → (T → ℕ → T → Type 0) → T → T → Result Ended ServeFault → Course → Type 0
 WentThrough turn done was is (Ok ended.Quit) course = Turned turn done was (length course.taken) is
 WentThrough turn done was is (Ok ended.TooLong) course = Turned turn done was (length course.taken) is
@@ -186,8 +193,8 @@ WentThrough turn done was is (Err fault.ReadFailed) course = Turned turn done wa
 WentThrough turn done was is (Err fault.WriteFailed) course = BreaksOff turn done was is course
 WentThrough turn done was is (Err fault.NoMemory) course = BreaksOff turn done was is course
 
--- A session with a port, turns, a source and a sink, each before and after it. It makes at most
--- `reads` reads.
+-- A session with a port, turns, a source and a sink: `old`, `was`, `had` and `held` before it, and
+-- `new`, `is`, `left` and `holds` after it. It makes at most `reads` reads.
 abbrev pub ServesTurns : {P : Type 0} → (P → Call → Result Reply AskFault → P → Type 0) → {T : Type 0} → (T → ℕ → Bool → T → Type 0) → (T → ℕ → T → Type 0)
     → Bool → ℕ → P → P → T → T → Input → Input → Output → Output → Result Ended ServeFault → Type 0
 ServesTurns asks turn done readonly reads old new was is had left held holds result =

@@ -4,7 +4,7 @@
 ghost use Rattle.std.specs.Prelude.{◌≡◌, ◌-◌, ◌<◌, ◌≤◌, ◌++◌, ◌∷◌, [], ℕ, List, length, true, false};
 ghost use Rattle.click_control.specs.declared.command.Command.{Command};
 ghost use Rattle.click_control.specs.declared.command.Command.TheVariants as command;
-ghost use Rattle.click_control.specs.declared.direction.Direction.{Direction};
+ghost use Rattle.click_router.specs.declared.check.Access.{Access};
 ghost use Rattle.click_control.specs.Commands.{commands, commands_from, in_line, in_payload, parse_line, blank, whole, announces, is_last, text_command, HasNoEnd, IsEndBefore};
 ghost use Rattle.click_control.specs.Taking.{Pending, fresh, fed, to_come};
 
@@ -44,7 +44,7 @@ pub fn a_line_that_is_too_long()
 /// The commands of the bytes after the payload follow. A CR alone is the line's end only if the
 /// payload does not begin with LF.
 pub fn commands_after_a_payload()
-    ensures { (line end payload more : List ℕ) (w : Direction) (handler : List ℕ) (n : ℕ) → HasNoEnd line → length line ≤ 65536 → IsEndBefore end payload
+    ensures { (line end payload more : List ℕ) (w : Access) (handler : List ℕ) (n : ℕ) → HasNoEnd line → length line ≤ 65536 → IsEndBefore end payload
         → parse_line line ≡ announces w handler n → length payload ≡ n
         → commands (line ++ (end ++ (payload ++ more))) ≡ text_command w handler payload ∷ commands more }
 {}
@@ -60,9 +60,9 @@ pub fn an_unfinished_line_gives_no_command()
 /// end. The bytes that follow are read as the rest of a payload that begins with exactly the bytes
 /// that came.
 pub fn an_unfinished_payload_gives_no_command()
-    ensures none { (line end came : List ℕ) (w : Direction) (handler : List ℕ) (n : ℕ) → HasNoEnd line → length line ≤ 65536 → IsEndBefore end came
+    ensures none { (line end came : List ℕ) (w : Access) (handler : List ℕ) (n : ℕ) → HasNoEnd line → length line ≤ 65536 → IsEndBefore end came
         → parse_line line ≡ announces w handler n → length came < n → commands (line ++ (end ++ came)) ≡ [] }
-    ensures waits { (line end came more : List ℕ) (w : Direction) (handler : List ℕ) (n : ℕ) → HasNoEnd line → length line ≤ 65536 → IsEndBefore end came
+    ensures waits { (line end came more : List ℕ) (w : Access) (handler : List ℕ) (n : ℕ) → HasNoEnd line → length line ≤ 65536 → IsEndBefore end came
         → parse_line line ≡ announces w handler n → 0 < length came → length came < n
         → commands (line ++ (end ++ (came ++ more))) ≡ commands_from (in_payload w handler (n - length came) came) more }
 {}

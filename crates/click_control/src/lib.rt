@@ -3,13 +3,10 @@
 #![tactic(auto)]
 
 mod command;
-mod device;
-mod direction;
 pub mod laws;
 mod line;
 pub mod line_laws;
 mod parsed;
-mod peer;
 mod port;
 mod reply;
 mod reply_ref;
@@ -19,11 +16,10 @@ mod session;
 mod start;
 mod turns;
 
+pub use click_streams::{Reading, Sink, Source, Writing};
 pub use command::{Answer, Command};
-pub use device::{InputDevice, OutputDevice, Reading, Writing};
-pub use peer::{Failed, Sink, Source};
 pub use port::{AskFault, Port};
 pub use reply::reply_text;
-pub use serving::{Ended, ServeFault, serve, serve_turns};
+pub use serving::{Ended, MAX_READS, ServeFault, serve, serve_turns};
 pub use session::Session;
 pub use turns::{Open, Turns};

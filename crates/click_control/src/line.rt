@@ -8,15 +8,15 @@ ghost use Rattle.click_control.specs.declared.start.Start.TheVariants as start;
 ghost use Rattle.click_control.specs.declared.line.FirstLine.TheVariants as found;
 
 use crate::command::Command;
-use crate::direction::Direction;
 use crate::parsed::{ParsedLine, parse_line, text_command};
 use crate::start::{Start, after_end, start_after};
 use click_base::sequence::Sequence;
+use click_router::Access;
 use memchr::memchr2;
 use std::alloc::{AllocError, Global};
 
 /// The maximum number of bytes of a line before its end.
-const LONGEST_LINE: usize = 65_536;
+const MAX_LINE_BYTES: usize = 65_536;
 
 /// The content of bytes that start at the beginning of a line.
 #[derive(Drop)]
@@ -48,12 +48,12 @@ pub fn first_line(alloc: Global, bytes: &[u8], searched: usize) -> Result<FirstL
     ensures { IfOk result (λ found. IsFirstLine bytes.now found) }
 {
     match line_len(bytes, searched) {
-        None if bytes.len() > LONGEST_LINE => Ok(too_long(bytes)),
+        None if bytes.len() > MAX_LINE_BYTES => Ok(too_long(bytes)),
         None => Ok(FirstLine::Partial {
             searched: bytes.len(),
             wanted: 0,
         }),
-        Some(len) if len > LONGEST_LINE => Ok(too_long(bytes)),
+        Some(len) if len > MAX_LINE_BYTES => Ok(too_long(bytes)),
         Some(len) => ended_line(alloc, bytes, len),
     }
 }
@@ -103,7 +103,7 @@ fn payload(
     alloc: Global,
     bytes: &[u8],
     len: usize,
-    direction: Direction,
+    direction: Access,
     handler: Sequence<u8>,
     count: usize,
 ) -> Result<FirstLine, AllocError>

@@ -5,7 +5,7 @@ ghost use Rattle.std.specs.Prelude.{◌≡◌, ◌^◌, ◌<◌, ◌≤◌, ◌+
 ghost use Rattle.std.specs.Str.{str_eq_ignore_ascii_case};
 ghost use Rattle.click_base.specs.Blanks.{trimmed};
 ghost use Rattle.click_control.specs.declared.command.Command.TheVariants as command;
-ghost use Rattle.click_control.specs.declared.direction.Direction.{Direction};
+ghost use Rattle.click_router.specs.declared.check.Access.{Access};
 ghost use Rattle.click_control.specs.Commands.{parse_line, whole, announces, text_command, check_command};
 ghost use Rattle.click_control.specs.LineWords.{AreBlanks, IsGap, IsWord, EndsWord, text_word, check_word, data_word};
 
@@ -14,16 +14,16 @@ ghost use Rattle.click_control.specs.LineWords.{AreBlanks, IsGap, IsWord, EndsWo
 ///
 /// The text has no blanks at its ends. If the line has no text, the command's text is empty.
 pub fn a_handler_and_a_text_are_a_command()
-    ensures text { (w : Direction) (before gap handler space text after : List ℕ) → AreBlanks before → IsGap gap → IsWord handler → IsGap space → trimmed text ≡ text
+    ensures text { (w : Access) (before gap handler space text after : List ℕ) → AreBlanks before → IsGap gap → IsWord handler → IsGap space → trimmed text ≡ text
         → AreBlanks after → parse_line (before ++ text_word w ++ gap ++ handler ++ space ++ text ++ after) ≡ whole (text_command w handler text) }
-    ensures none { (w : Direction) (before gap handler after : List ℕ) → AreBlanks before → IsGap gap → IsWord handler → AreBlanks after
+    ensures none { (w : Access) (before gap handler after : List ℕ) → AreBlanks before → IsGap gap → IsWord handler → AreBlanks after
         → parse_line (before ++ text_word w ++ gap ++ handler ++ after) ≡ whole (text_command w handler []) }
 {}
 
 /// A line of `CHECKREAD` or `CHECKWRITE` and a handler is the command that asks whether the handler
 /// can be read or written. A line of `QUIT` is the command that ends the session.
 pub fn a_question_and_the_end_are_commands()
-    ensures check { (w : Direction) (before gap handler after : List ℕ) → AreBlanks before → IsGap gap → IsWord handler → AreBlanks after
+    ensures check { (w : Access) (before gap handler after : List ℕ) → AreBlanks before → IsGap gap → IsWord handler → AreBlanks after
         → parse_line (before ++ check_word w ++ gap ++ handler ++ after) ≡ whole (check_command w handler) }
     ensures quit { (before after : List ℕ) → AreBlanks before → AreBlanks after → parse_line (before ++ codes "QUIT" ++ after) ≡ whole command.Quit }
 {}
@@ -34,11 +34,11 @@ pub fn a_question_and_the_end_are_commands()
 /// With a greater number the line is the command `DataTooLong`. With 0 it is the command with an
 /// empty text.
 pub fn a_handler_and_a_number_announce_a_payload()
-    ensures some { (w : Direction) (before gap handler space after : List ℕ) (n : ℕ) → AreBlanks before → IsGap gap → IsWord handler → IsGap space → AreBlanks after
+    ensures some { (w : Access) (before gap handler space after : List ℕ) (n : ℕ) → AreBlanks before → IsGap gap → IsWord handler → IsGap space → AreBlanks after
         → 1 ≤ n → n ≤ 1048576 → parse_line (before ++ data_word w ++ gap ++ handler ++ space ++ decimal n ++ after) ≡ announces w handler n }
-    ensures many { (w : Direction) (before gap handler space after : List ℕ) (n : ℕ) → AreBlanks before → IsGap gap → IsWord handler → IsGap space → AreBlanks after
+    ensures many { (w : Access) (before gap handler space after : List ℕ) (n : ℕ) → AreBlanks before → IsGap gap → IsWord handler → IsGap space → AreBlanks after
         → 1048576 < n → n < 2 ^ 64 → parse_line (before ++ data_word w ++ gap ++ handler ++ space ++ decimal n ++ after) ≡ whole command.DataTooLong }
-    ensures none { (w : Direction) (before gap handler space after : List ℕ) → AreBlanks before → IsGap gap → IsWord handler → IsGap space → AreBlanks after
+    ensures none { (w : Access) (before gap handler space after : List ℕ) → AreBlanks before → IsGap gap → IsWord handler → IsGap space → AreBlanks after
         → parse_line (before ++ data_word w ++ gap ++ handler ++ space ++ decimal 0 ++ after) ≡ whole (text_command w handler []) }
 {}
 

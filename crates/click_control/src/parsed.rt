@@ -8,14 +8,14 @@ ghost use Rattle.click_control.specs.Commands.{first_word, after_word, second_wo
 ghost use Rattle.click_control.specs.kept.Lines.{says, bad_count};
 
 use crate::command::Command;
-use crate::direction::Direction;
 use click_base::sequence::Sequence;
 use click_base::{is_blank, trimmed, without_front};
 use click_classes::{ArgFault, decimal_number};
+use click_router::Access;
 use std::alloc::{AllocError, Global};
 
 /// The maximum number of bytes of a payload.
-const LONGEST_PAYLOAD: u64 = 1_048_576;
+const MAX_PAYLOAD_BYTES: u64 = 1_048_576;
 
 /// The meaning of a line.
 #[derive(Drop)]
@@ -26,7 +26,7 @@ pub enum ParsedLine {
     Whole(Command),
     /// The line announces a payload of `count` bytes, at least one, for a handler.
     Announces {
-        direction: Direction,
+        direction: Access,
         handler: Sequence<u8>,
         count: usize,
     },
@@ -40,17 +40,17 @@ pub fn parse_line(alloc: Global, line: &[u8]) -> Result<ParsedLine, AllocError>
     if word.is_empty() {
         Ok(ParsedLine::Blank)
     } else if is_word(word, b"READ") {
-        parse_text(alloc, Direction::Read, rest)
+        parse_text(alloc, Access::Read, rest)
     } else if is_word(word, b"WRITE") {
-        parse_text(alloc, Direction::Write, rest)
+        parse_text(alloc, Access::Write, rest)
     } else if is_word(word, b"READDATA") {
-        parse_data(alloc, Direction::Read, rest)
+        parse_data(alloc, Access::Read, rest)
     } else if is_word(word, b"WRITEDATA") {
-        parse_data(alloc, Direction::Write, rest)
+        parse_data(alloc, Access::Write, rest)
     } else if is_word(word, b"CHECKREAD") {
-        parse_check(alloc, Direction::Read, rest)
+        parse_check(alloc, Access::Read, rest)
     } else if is_word(word, b"CHECKWRITE") {
-        parse_check(alloc, Direction::Write, rest)
+        parse_check(alloc, Access::Write, rest)
     } else if is_word(word, b"QUIT") {
         Ok(ParsedLine::Whole(Command::Quit))
     } else {
@@ -61,7 +61,7 @@ pub fn parse_line(alloc: Global, line: &[u8]) -> Result<ParsedLine, AllocError>
 }
 
 /// Parses the rest of a line after `READ` or `WRITE`.
-fn parse_text(alloc: Global, direction: Direction, rest: &[u8]) -> Result<ParsedLine, AllocError>
+fn parse_text(alloc: Global, direction: Access, rest: &[u8]) -> Result<ParsedLine, AllocError>
     ensures { IfOk result (λ parsed. says parsed ≡ parse_text direction (first_word rest.now) (trimmed (after_word rest.now))) }
 {
     let (handler, text) = cut(rest);
@@ -74,7 +74,7 @@ fn parse_text(alloc: Global, direction: Direction, rest: &[u8]) -> Result<Parsed
 }
 
 /// Parses the rest of a line after `CHECKREAD` or `CHECKWRITE`.
-fn parse_check(alloc: Global, direction: Direction, rest: &[u8]) -> Result<ParsedLine, AllocError>
+fn parse_check(alloc: Global, direction: Access, rest: &[u8]) -> Result<ParsedLine, AllocError>
     ensures { IfOk result (λ parsed. says parsed ≡ parse_check direction (first_word rest.now) (second_word rest.now)) }
 {
     let (handler, rest) = cut(rest);
@@ -87,7 +87,7 @@ fn parse_check(alloc: Global, direction: Direction, rest: &[u8]) -> Result<Parse
 }
 
 /// Parses the rest of a line after `READDATA` or `WRITEDATA`.
-fn parse_data(alloc: Global, direction: Direction, rest: &[u8]) -> Result<ParsedLine, AllocError>
+fn parse_data(alloc: Global, direction: Access, rest: &[u8]) -> Result<ParsedLine, AllocError>
     ensures { IfOk result (λ parsed. says parsed ≡ parse_data direction (first_word rest.now) (second_word rest.now) (third_word rest.now)) }
 {
     let (handler, rest) = cut(rest);
@@ -96,7 +96,7 @@ fn parse_data(alloc: Global, direction: Direction, rest: &[u8]) -> Result<Parsed
     if !third.is_empty() {
         return Ok(ParsedLine::Whole(Command::Syntax));
     }
-    match decimal_number(count, 0, LONGEST_PAYLOAD) {
+    match decimal_number(count, 0, MAX_PAYLOAD_BYTES) {
         Ok(count) => payload_line(alloc, direction, handler, count as usize),
         Err(fault) => Ok(ParsedLine::Whole(bad_count(fault))),
     }
@@ -120,7 +120,7 @@ fn bad_count(fault: ArgFault) -> Command
 /// Returns the meaning of a line with a payload of `count` bytes: a whole command if `count` is 0.
 fn payload_line(
     alloc: Global,
-    direction: Direction,
+    direction: Access,
     handler: &[u8],
     count: usize,
 ) -> Result<ParsedLine, AllocError>
@@ -140,22 +140,22 @@ fn payload_line(
 }
 
 /// Returns the command that reads or writes a handler with a text.
-pub fn text_command(direction: Direction, handler: Sequence<u8>, text: Sequence<u8>) -> Command
+pub fn text_command(direction: Access, handler: Sequence<u8>, text: Sequence<u8>) -> Command
     ensures { result ≡ text_command direction handler text }
 {
     match direction {
-        Direction::Read => Command::Read { handler, text },
-        Direction::Write => Command::Write { handler, text },
+        Access::Read => Command::Read { handler, text },
+        Access::Write => Command::Write { handler, text },
     }
 }
 
 /// Returns the command that asks whether a handler can be read or written.
-fn check_command(direction: Direction, handler: Sequence<u8>) -> Command
+fn check_command(direction: Access, handler: Sequence<u8>) -> Command
     ensures { result ≡ check_command direction handler }
 {
     match direction {
-        Direction::Read => Command::CheckRead { handler },
-        Direction::Write => Command::CheckWrite { handler },
+        Access::Read => Command::CheckRead { handler },
+        Access::Write => Command::CheckWrite { handler },
     }
 }
 

@@ -28,16 +28,17 @@ pub trait Port {
     /// Makes one call, which is not a Poll, and returns the reply as a history stores it.
     ///
     /// perf: a `StoredReply` is small; a `Reply` has room for a packet.
-    fn record(&mut self, alloc: Global, call: Call) -> Result<StoredReply, AskFault>
+    fn ask_stored(&mut self, alloc: Global, call: Call) -> Result<StoredReply, AskFault>
         requires { is_poll call ≡ false }
         ensures { asks self.old call result self.new };
 
-    /// Makes one call, which is not a Poll, and returns its reply. A session uses `record` only.
+    /// Makes one call, which is not a Poll, and returns its reply. A session uses `ask_stored`
+    /// only.
     fn ask(&mut self, alloc: Global, call: Call) -> Result<Reply, AskFault>
         requires { is_poll call ≡ false }
         ensures { asks self.old call result self.new }
     {
-        match self.record(alloc, call) {
+        match self.ask_stored(alloc, call) {
             Ok(reply) => Ok(reply.into_reply()),
             Err(fault) => Err(fault),
         }

@@ -8,28 +8,27 @@ ghost use Rattle.click_control.specs.kept.ReplyRef.{shown_reply, refusal_of};
 ghost use Rattle.click_control.specs.kept.Topics.{topic_text};
 
 use crate::command::{Answer, Command};
-use crate::direction::Direction;
 use crate::port::AskFault;
 use crate::reply_ref::{RefusalRef, ReplyRef, borrow_reply, borrow_stored_reply};
 use click_base::split;
-use click_router::StoredReply;
+use click_router::{Access, StoredReply};
 use itoa::Buffer;
 use std::alloc::{AllocError, Global};
 
 /// The initial capacity for a reply's lines, in bytes. Most replies fit.
-const SHORT_REPLY: usize = 128;
+const SHORT_REPLY_BYTES: usize = 128;
 
 /// The maximum number of bytes of a successful read's lines, without the handler's name and the
 /// value.
-const VALUE_LINES: usize = 51;
+const VALUE_REPLY_BYTES: usize = 51;
 
 /// What a reply needs to know of its command, except the handler's name.
 #[derive(Drop)]
-pub(crate) enum Topic {
+pub(crate) enum ReplyContext {
     /// A read.
     Read,
     /// A write, or a check of whether a handler can be read or written.
-    Done(Direction),
+    Done(Access),
     /// A command that makes no call.
     Uncalled(Command),
 }
@@ -39,7 +38,7 @@ pub(crate) enum Topic {
 pub fn reply_text(alloc: Global, command: &Command, answer: &Answer) -> Result<Vec<u8>, AllocError>
     ensures { IfOk result (λ text. text.items ≡ text_of command.now answer.now) }
 {
-    let mut text = Vec::with_capacity(alloc, SHORT_REPLY)?;
+    let mut text = Vec::with_capacity(alloc, SHORT_REPLY_BYTES)?;
     match answer {
         Answer::Replied(reply) => push_shown(&mut text, alloc, command, borrow_reply(reply))?,
         Answer::Failed(fault) => push_unreplied(&mut text, command, *fault)?,
@@ -53,7 +52,7 @@ pub fn reply_text(alloc: Global, command: &Command, answer: &Answer) -> Result<V
 pub(crate) fn push_replied(
     text: &mut Vec<u8>,
     alloc: Global,
-    topic: &Topic,
+    topic: &ReplyContext,
     handler: &[u8],
     reply: &StoredReply,
 ) -> Result<(), AllocError>
@@ -61,38 +60,38 @@ pub(crate) fn push_replied(
 {
     let reply_ref = borrow_stored_reply(reply);
     match topic {
-        Topic::Read => push_read(text, alloc, handler, reply_ref),
-        Topic::Done(direction) => push_done(text, alloc, *direction, handler, reply_ref),
-        Topic::Uncalled(command) => push_shown(text, alloc, command, reply_ref),
+        ReplyContext::Read => push_read(text, alloc, handler, reply_ref),
+        ReplyContext::Done(direction) => push_done(text, alloc, *direction, handler, reply_ref),
+        ReplyContext::Uncalled(command) => push_shown(text, alloc, command, reply_ref),
     }
 }
 
 /// Appends the lines for a command whose call failed.
 pub(crate) fn push_failed_topic(
     text: &mut Vec<u8>,
-    topic: &Topic,
+    topic: &ReplyContext,
     fault: AskFault,
 ) -> Result<(), AllocError>
     ensures { (handler : List ℕ) → OnOk result (text.new.items ≡ text.old.items ++ topic_text topic.now handler (Answer.Failed fault)) }
 {
     match topic {
-        Topic::Read | Topic::Done(_) => push_failed(text, fault),
-        Topic::Uncalled(command) => push_unreplied(text, command, fault),
+        ReplyContext::Read | ReplyContext::Done(_) => push_failed(text, fault),
+        ReplyContext::Uncalled(command) => push_unreplied(text, command, fault),
     }
 }
 
 /// Appends the lines for a command that made no call.
 pub(crate) fn push_uncalled_topic(
     text: &mut Vec<u8>,
-    topic: &Topic,
+    topic: &ReplyContext,
     handler: &[u8],
 ) -> Result<(), AllocError>
     ensures { OnOk result (text.new.items ≡ text.old.items ++ topic_text topic.now handler.now Answer.NoCall) }
 {
     match topic {
-        Topic::Read => Ok(()),
-        Topic::Done(direction) => push_denied(text, *direction, handler),
-        Topic::Uncalled(command) => push_uncalled(text, command),
+        ReplyContext::Read => Ok(()),
+        ReplyContext::Done(direction) => push_denied(text, *direction, handler),
+        ReplyContext::Uncalled(command) => push_uncalled(text, command),
     }
 }
 
@@ -108,10 +107,10 @@ fn push_shown(
     match command {
         Command::Read { handler, .. } => push_read(text, alloc, handler.as_slice(), reply_ref),
         Command::CheckRead { handler } => {
-            push_done(text, alloc, Direction::Read, handler.as_slice(), reply_ref)
+            push_done(text, alloc, Access::Read, handler.as_slice(), reply_ref)
         }
         Command::Write { handler, .. } | Command::CheckWrite { handler } => {
-            push_done(text, alloc, Direction::Write, handler.as_slice(), reply_ref)
+            push_done(text, alloc, Access::Write, handler.as_slice(), reply_ref)
         }
         Command::Quit
         | Command::Syntax
@@ -145,7 +144,7 @@ fn push_uncalled(text: &mut Vec<u8>, command: &Command) -> Result<(), AllocError
     match command {
         Command::Read { .. } | Command::CheckRead { .. } => Ok(()),
         Command::Write { handler, .. } | Command::CheckWrite { handler } => {
-            push_denied(text, Direction::Write, handler.as_slice())
+            push_denied(text, Access::Write, handler.as_slice())
         }
         Command::Quit => text.extend_from_slice(b"200 Goodbye!\r\n"),
         Command::Syntax => text.extend_from_slice(b"500 Syntax error\r\n"),
@@ -168,7 +167,7 @@ fn push_read(
 {
     match reply_ref {
         ReplyRef::Value(bytes) => push_value(text, handler, bytes),
-        ReplyRef::Refused(why) => push_refused(text, alloc, Direction::Read, handler, why),
+        ReplyRef::Refused(why) => push_refused(text, alloc, Access::Read, handler, why),
         ReplyRef::Done | ReplyRef::Nothing => Ok(()),
     }
 }
@@ -177,7 +176,7 @@ fn push_read(
 fn push_done(
     text: &mut Vec<u8>,
     alloc: Global,
-    direction: Direction,
+    direction: Access,
     handler: &[u8],
     reply_ref: ReplyRef,
 ) -> Result<(), AllocError>
@@ -191,12 +190,12 @@ fn push_done(
 }
 
 /// Appends the first line of a successful read, or the line of a successful write or check.
-fn push_good(text: &mut Vec<u8>, direction: Direction, handler: &[u8]) -> Result<(), AllocError>
+fn push_good(text: &mut Vec<u8>, direction: Access, handler: &[u8]) -> Result<(), AllocError>
     ensures { OnOk result (text.new.items ≡ text.old.items ++ good_text direction handler.now) }
 {
     match direction {
-        Direction::Read => push_around(text, b"200 Read handler '", handler, b"' OK\r\n"),
-        Direction::Write => push_around(text, b"200 Write handler '", handler, b"' OK\r\n"),
+        Access::Read => push_around(text, b"200 Read handler '", handler, b"' OK\r\n"),
+        Access::Write => push_around(text, b"200 Write handler '", handler, b"' OK\r\n"),
     }
 }
 
@@ -219,7 +218,7 @@ fn push_counted(
     ensures { OnOk result (text.new.items ≡ text.old.items ++ (codes "200 Read handler '" ++ (handler.now ++ (codes "' OK\r\nDATA " ++ (digits.now ++ (codes "\r\n" ++ bytes.now)))))) }
 {
     let room = handler.len().saturating_add(bytes.len());
-    text.reserve(room.saturating_add(VALUE_LINES))?;
+    text.reserve(room.saturating_add(VALUE_REPLY_BYTES))?;
     push_around(text, b"200 Read handler '", handler, b"' OK\r\nDATA ")?;
     push_around(text, digits, b"\r\n", bytes)
 }
@@ -228,7 +227,7 @@ fn push_counted(
 fn push_refused(
     text: &mut Vec<u8>,
     alloc: Global,
-    direction: Direction,
+    direction: Access,
     handler: &[u8],
     why: RefusalRef,
 ) -> Result<(), AllocError>
@@ -249,16 +248,12 @@ fn push_refused(
 }
 
 /// Appends that a handler can be used in the opposite direction only.
-fn push_wrong_way(
-    text: &mut Vec<u8>,
-    direction: Direction,
-    handler: &[u8],
-) -> Result<(), AllocError>
+fn push_wrong_way(text: &mut Vec<u8>, direction: Access, handler: &[u8]) -> Result<(), AllocError>
     ensures { OnOk result (text.new.items ≡ text.old.items ++ refused_text direction handler.now (refusal_of RefusalRef.WrongWay)) }
 {
     match direction {
-        Direction::Read => push_quoting(text, b"530 Handler ", handler, b" write-only"),
-        Direction::Write => push_quoting(text, b"530 Handler ", handler, b" read-only"),
+        Access::Read => push_quoting(text, b"530 Handler ", handler, b" write-only"),
+        Access::Write => push_quoting(text, b"530 Handler ", handler, b" read-only"),
     }
 }
 
@@ -273,27 +268,27 @@ fn push_failed(text: &mut Vec<u8>, fault: AskFault) -> Result<(), AllocError>
 }
 
 /// Appends the denial of a command that a read-only session may not make. A read is never denied.
-fn push_denied(text: &mut Vec<u8>, direction: Direction, handler: &[u8]) -> Result<(), AllocError>
+fn push_denied(text: &mut Vec<u8>, direction: Access, handler: &[u8]) -> Result<(), AllocError>
     ensures { OnOk result (text.new.items ≡ text.old.items ++ denied_text direction handler.now) }
 {
     match direction {
-        Direction::Read => Ok(()),
-        Direction::Write => push_quoting(text, b"530 Permission denied for ", handler, b""),
+        Access::Read => Ok(()),
+        Access::Write => push_quoting(text, b"530 Permission denied for ", handler, b""),
     }
 }
 
 /// Appends the two lines of a fault that a handler or a configuration has.
 fn push_error(
     text: &mut Vec<u8>,
-    direction: Direction,
+    direction: Access,
     handler: &[u8],
     fault: &[u8],
 ) -> Result<(), AllocError>
     ensures { OnOk result (text.new.items ≡ text.old.items ++ error_text direction handler.now fault.now) }
 {
     match direction {
-        Direction::Read => push_quoting(text, b"520-Read handler ", handler, b" error:")?,
-        Direction::Write => push_quoting(text, b"520-Write handler ", handler, b" error:")?,
+        Access::Read => push_quoting(text, b"520-Read handler ", handler, b" error:")?,
+        Access::Write => push_quoting(text, b"520-Write handler ", handler, b" error:")?,
     }
     text.extend_from_slice(b"520 ")?;
     text.extend_from_slice(fault)?;

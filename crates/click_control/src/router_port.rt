@@ -32,11 +32,11 @@ impl<T: Handlers> Port for Router<T> {
 
     ghost asks = { Steps };
 
-    fn record(&mut self, alloc: Global, call: Call) -> Result<StoredReply, AskFault> {
+    fn ask_stored(&mut self, alloc: Global, call: Call) -> Result<StoredReply, AskFault> {
         let Ok(room) = room_for(alloc, &call) else {
             return Err(AskFault::NoMemory);
         };
-        match self.record(alloc, &call, room) {
+        match self.step_stored(alloc, &call, room) {
             Ok(reply) => Ok(reply),
             Err(fault) => Err(fault_of(fault)),
         }

@@ -1,23 +1,22 @@
 //! Serving a whole session.
 
-ghost use Rattle.std.specs.Prelude.{◌≡◌, ◌++◌, ◌+◌, ◌-◌, ◌≤◌, ◌<◌, ◌^◌, ℕ, List, [], false, true, length, IfNone, IfSome, IfOk, OnOk, OnErr};
+ghost use Rattle.std.specs.Prelude.{◌≡◌, ◌++◌, ◌+◌, ◌-◌, ◌≤◌, ◌<◌, ◌^◌, ℕ, List, [], false, length, IfNone, IfSome, IfOk, OnOk};
 ghost use Rattle.click_router.specs.Polls.{is_poll};
 ghost use Rattle.click_control.specs.Serving.{Serves, ServesTurns, Answered, call_of};
 ghost use Rattle.click_control.specs.Taking.{Pending, GivesOne, to_come};
-ghost use Rattle.click_control.specs.Peers.{Input, Output, HasWritten};
-ghost use Rattle.click_control.specs.kept.Going.{SoFar, Goes, Written, WroteFront, TakesIn, ending_of};
+ghost use Rattle.click_streams.specs.Peers.{Input, Output};
+ghost use Rattle.click_control.specs.kept.Going.{SoFar, Goes, Written, TakesIn, ending_of};
 ghost use Rattle.click_control.specs.kept.Topics.{topic_text};
 ghost use Rattle.click_control.specs.ReplyText.{text_of, greeting};
 ghost use Rattle.click_control.specs.declared.command.Answer.{Answer};
 
 use crate::command::Command;
-use crate::direction::Direction;
-use crate::peer::{Failed, Sink, Source};
 use crate::port::Port;
-use crate::reply::{Topic, push_failed_topic, push_replied, push_uncalled_topic};
+use crate::reply::{ReplyContext, push_failed_topic, push_replied, push_uncalled_topic};
 use crate::session::Session;
 use crate::turns::{Open, Turns};
-use click_router::Call;
+use click_router::{Access, Call};
+use click_streams::{Failed, Sink, Source, write_all};
 use std::alloc::{AllocError, Global};
 use thiserror::Error;
 
@@ -57,13 +56,13 @@ pub enum ServeFault {
 }
 
 /// The maximum number of reads of a session, if its caller sets no other.
-pub const MOST_READS: u32 = 4_294_967_295;
+pub const MAX_READS: u32 = 4_294_967_295;
 
 /// The maximum number of bytes of one read.
-const PIECE: usize = 4096;
+const READ_CHUNK_BYTES: usize = 4096;
 
 /// The maximum capacity, in bytes, that is kept from one reply's lines to the next.
-const MOST_KEPT: usize = 65_536;
+const MAX_KEPT_BYTES: usize = 65_536;
 
 /// Serves a session: writes the greeting, then the reply to each command.
 ///
@@ -79,7 +78,7 @@ pub fn serve<R: Source, W: Sink, P: Port>(
 ) -> Result<Ended, ServeFault>
     ensures { Serves P.asks readonly port.old port.new (R.input reader.old) (R.input reader.new) (W.output writer.old) (W.output writer.new) result }
 {
-    serve_turns(alloc, reader, writer, port, readonly, &mut Open, MOST_READS)
+    serve_turns(alloc, reader, writer, port, readonly, &mut Open, MAX_READS)
 }
 
 /// Does what `serve` does, with turns, and with at most `reads` reads.
@@ -105,7 +104,7 @@ pub fn serve_turns<R: Source, W: Sink, P: Port, T: Turns>(
         handler: Vec::new(alloc),
         lines: Vec::new(alloc),
     };
-    let mut piece = [0; PIECE];
+    let mut piece = [0; READ_CHUNK_BYTES];
     let mut taken = 0;
     for _reads in 0..reads {
         if !feed_piece(reader, &mut piece, &mut session)? {
@@ -237,46 +236,49 @@ fn call_of(
     kept: &mut Vec<u8>,
     readonly: bool,
     command: Command,
-) -> Result<(Option<Call>, Topic), AllocError>
+) -> Result<(Option<Call>, ReplyContext), AllocError>
     ensures call { IfOk result (λ parts. parts.0 ≡ call_of readonly command) }
     ensures no_poll { IfOk result (λ parts. IfSome parts.0 (λ c. is_poll c ≡ false)) }
     ensures replies { IfOk result (λ parts. (answer : Answer) → topic_text parts.1 kept.new.items answer ≡ text_of command answer) }
 {
     match command {
         Command::Write { .. } | Command::CheckWrite { .. } if readonly => {
-            Ok((None, Topic::Uncalled(command)))
+            Ok((None, ReplyContext::Uncalled(command)))
         }
         Command::Read { handler, text } => {
             keep(kept, handler.as_slice())?;
             let name = handler;
-            Ok((Some(Call::Read { name, text }), Topic::Read))
+            Ok((Some(Call::Read { name, text }), ReplyContext::Read))
         }
         Command::Write { handler, text } => {
             keep(kept, handler.as_slice())?;
             let name = handler;
             Ok((
                 Some(Call::Write { name, text }),
-                Topic::Done(Direction::Write),
+                ReplyContext::Done(Access::Write),
             ))
         }
         Command::CheckRead { handler } => {
             keep(kept, handler.as_slice())?;
             let name = handler;
-            Ok((Some(Call::CheckRead { name }), Topic::Done(Direction::Read)))
+            Ok((
+                Some(Call::CheckRead { name }),
+                ReplyContext::Done(Access::Read),
+            ))
         }
         Command::CheckWrite { handler } => {
             keep(kept, handler.as_slice())?;
             let name = handler;
             Ok((
                 Some(Call::CheckWrite { name }),
-                Topic::Done(Direction::Write),
+                ReplyContext::Done(Access::Write),
             ))
         }
         Command::Quit
         | Command::Syntax
         | Command::LineTooLong
         | Command::DataTooLong
-        | Command::Unknown { .. } => Ok((None, Topic::Uncalled(command))),
+        | Command::Unknown { .. } => Ok((None, ReplyContext::Uncalled(command))),
     }
 }
 
@@ -294,7 +296,7 @@ fn ask_and_reply<W: Sink, P: Port>(
     buffers: &mut ReplyBuffers,
     writer: &mut W,
     port: &mut P,
-    topic: &Topic,
+    topic: &ReplyContext,
     call: Option<Call>,
 ) -> Result<(), ServeFault>
     requires { IfSome call (λ c. is_poll c ≡ false) }
@@ -310,7 +312,7 @@ fn ask_and_reply<W: Sink, P: Port>(
             reply(writer, lines, added)
         }
         Some(call) => {
-            let recorded = port.record(buffers.alloc, call);
+            let recorded = port.ask_stored(buffers.alloc, call);
             match &recorded {
                 Ok(answer) => {
                     let added = push_replied(lines, buffers.alloc, topic, handler, answer);
@@ -338,7 +340,7 @@ fn reply<W: Sink>(
         return Err(ServeFault::NoMemory);
     };
     let written = write_all(writer, lines);
-    if lines.capacity() > MOST_KEPT {
+    if lines.capacity() > MAX_KEPT_BYTES {
         lines.clear();
         lines.shrink_to_fit();
     }
@@ -346,21 +348,6 @@ fn reply<W: Sink>(
         Ok(()) => Ok(()),
         Err(Failed) => Err(ServeFault::WriteFailed),
     }
-}
-
-/// Writes all the bytes, in as many writes as necessary.
-fn write_all<W: Sink>(writer: &mut W, bytes: &[u8]) -> Result<(), Failed>
-    ensures ok { OnOk result (HasWritten (W.output writer.old) (W.output writer.new) bytes.now false) }
-    ensures err { OnErr result (WroteFront (W.output writer.old) (W.output writer.new) bytes.now true) }
-{
-    let mut at = 0;
-    while at < bytes.len() {
-        match writer.write(&bytes[at..]) {
-            Ok(n) => at += n,
-            Err(Failed) => return Err(Failed),
-        }
-    }
-    Ok(())
 }
 
 /// Returns how a command ends a session, or `None` if it does not.

@@ -8,13 +8,13 @@ use Rattle.click_router.specs.Polls.{poll, is_poll}
 use Rattle.click_router.specs.State.{RouterState}
 use Rattle.click_router.specs.declared.call.Reply.{Reply}
 use Rattle.click_router.specs.declared.call.Reply.TheVariants.{NoDevice}
-use Rattle.click_trail.specs.TrailState.{TrailState}
 use Rattle.click_views.specs.Showing.{Showing}
 use Rattle.click_desk.specs.declared.logged_router.RouterLog.{RouterLog}
 use Rattle.click_desk.specs.declared.entry.Entry.{Entry}
 use Rattle.click_desk.specs.declared.options.DeskOptions.{DeskOptions}
 use Rattle.click_desk.specs.History.{Legal, installs, installed}
 use Rattle.click_desk.specs.Polls.{IsPolled, MayTake}
+use Rattle.click_desk.specs.TrailState.{TrailState}
 use Rattle.click_desk.proofs.Histories.{legal_more}
 use Rattle.click_desk.proofs.InstalledTexts.{published_more, quiet}
 use Rattle.click_desk.proofs.HistoryPolls.{polled_same, polled_drew, drew_length, none_of}

@@ -12,7 +12,7 @@ use Rattle.click_desk.specs.declared.logged_router.DeskFault.{DeskFault}
 use Rattle.click_desk.specs.declared.logged_router.DeskFault.TheVariants.{HistoryFull}
 use Rattle.click_desk.specs.declared.entry.Entry.{Entry}
 use Rattle.click_desk.specs.declared.desk_setup.DeskSetup.{DeskSetup}
-use Rattle.click_desk.specs.declared.view.View.{View}
+use Rattle.click_desk.specs.declared.pass_knowledge.PassKnowledge.{PassKnowledge}
 use Rattle.click_desk.specs.DeskSetups.{terms_of}
 use Rattle.click_router.specs.Polls.{poll}
 use Rattle.click_desk.specs.Polls.{Polls, MayTake}
@@ -77,15 +77,15 @@ may_give_at t n calls seen b b2 calls2 call (Err fault) made finds enters =
       others = λ m apart. ap (λ (x : LoggedRouterState). entries x.entries m) is;
     }
 
-pub may_give : (n : ℕ) (calls : List (Call × Reply)) (v v1 : View) (b b2 : LoggedRouterState) (calls2 : List (Call × Reply)) (call : Call) (result : Result Reply DeskFault)
+pub may_give : (n : ℕ) (calls : List (Call × Reply)) (v v1 : PassKnowledge) (b b2 : LoggedRouterState) (calls2 : List (Call × Reply)) (call : Call) (result : Result Reply DeskFault)
     → v ≡ seated v.options n calls v.seen → n < v.options.seats → Takes v b v1 → Enters b b2 n calls calls2 call result → MayGive v1 b2
 may_give n calls v v1 b b2 calls2 call result is made takes enters =
-    let s : View = seated v.options n calls v.seen in
+    let s : PassKnowledge = seated v.options n calls v.seen in
     let now : taken s b ≡ v1 = ap (λ y. taken y b) (sym is) ∙ sym takes.0 in
-    subst (λ (y : View). MayGive y b2) now (may_give_at v.options n calls v.seen b b2 calls2 call result made (subst (λ (y : View). Finds y b) is takes.1) enters)
+    subst (λ (y : PassKnowledge). MayGive y b2) now (may_give_at v.options n calls v.seen b b2 calls2 call result made (subst (λ (y : PassKnowledge). Finds y b) is takes.1) enters)
 
 -- After the give, the seat's pass is again that of a seat which holds nothing.
-pub settled : (n : ℕ) (calls : List (Call × Reply)) (v v1 v2 : View) (b b2 : LoggedRouterState) → v ≡ seated v.options n calls v.seen → Takes v b v1 → Gives v1 b2 v2 → v2 ≡ seated b2.options n (entries b2.entries n) b2.entries
+pub settled : (n : ℕ) (calls : List (Call × Reply)) (v v1 v2 : PassKnowledge) (b b2 : LoggedRouterState) → v ≡ seated v.options n calls v.seen → Takes v b v1 → Gives v1 b2 v2 → v2 ≡ seated b2.options n (entries b2.entries n) b2.entries
 settled n calls v v1 v2 b b2 is takes gives = gives ∙ (ap (λ y. given y b2) takes.0 ∙ ap (λ y. given (taken y b) b2) is)
 
 own_at : (n : ℕ) (calls : List (Call × Reply)) (b b2 : LoggedRouterState) (calls2 : List (Call × Reply)) (call : Call) (result : Result Reply DeskFault) → entries b.entries n ≡ calls → Enters b b2 n calls calls2 call result → entries b2.entries n ≡ calls2
@@ -94,22 +94,22 @@ own_at n calls b b2 calls2 call (Ok reply) own enters =
 own_at n calls b b2 calls2 call (Err fault) own enters = ap (λ (x : LoggedRouterState). entries x.entries n) enters.err.0 ∙ (own ∙ sym enters.err.1)
 
 -- The value of a seat in contracts, from what its pass knows.
-abbrev pub sitting : TableId → ℕ → List (Call × Reply) → View → SeatState
+abbrev pub sitting : TableId → ℕ → List (Call × Reply) → PassKnowledge → SeatState
 sitting table n calls v = record { desk = record { table = table; options = terms_of v.options }; feeds = v.options.feeds; number = n; calls = calls; seen = v.seen }
 
-pub own : (n : ℕ) (calls : List (Call × Reply)) (v v1 : View) (b b2 : LoggedRouterState) (calls2 : List (Call × Reply)) (call : Call) (result : Result Reply DeskFault)
+pub own : (n : ℕ) (calls : List (Call × Reply)) (v v1 : PassKnowledge) (b b2 : LoggedRouterState) (calls2 : List (Call × Reply)) (call : Call) (result : Result Reply DeskFault)
     → v ≡ seated v.options n calls v.seen → Takes v b v1 → Enters b b2 n calls calls2 call result → entries b2.entries n ≡ calls2
 own n calls v v1 b b2 calls2 call result is takes enters =
-    let finds = subst (λ (y : View). Finds y b) is takes.1 in
+    let finds = subst (λ (y : PassKnowledge). Finds y b) is takes.1 in
     own_at n calls b b2 calls2 call result (finds.3 refl) enters
 
-pub sound : (table : TableId) (n : ℕ) (calls : List (Call × Reply)) (v v1 v2 : View) (b b2 : LoggedRouterState) (calls2 : List (Call × Reply)) (call : Call) (result : Result Reply DeskFault)
+pub sound : (table : TableId) (n : ℕ) (calls : List (Call × Reply)) (v v1 v2 : PassKnowledge) (b b2 : LoggedRouterState) (calls2 : List (Call × Reply)) (call : Call) (result : Result Reply DeskFault)
     → v ≡ seated v.options n calls v.seen → n < v.options.seats → Takes v b v1 → Enters b b2 n calls calls2 call result → Gives v1 b2 v2
     → (v2 ≡ seated v2.options n calls2 v2.seen) × IsSeat (sitting table n calls2 v2)
 sound table n calls v v1 v2 b b2 calls2 call result is made takes enters gives =
     let mine = own n calls v v1 b b2 calls2 call result is takes enters in
     let at : v2 ≡ seated b2.options n calls2 b2.entries = settled n calls v v1 v2 b b2 is takes gives ∙ ap (λ l. seated b2.options n l b2.entries) mine in
-    let found = subst (λ (y : View). Finds y b) is takes.1 in
+    let found = subst (λ (y : PassKnowledge). Finds y b) is takes.1 in
     let options : b2.options ≡ v.options = enters.options ∙ takes.1.0 in
     let here : IsSeat (sitting table n calls2 (seated b2.options n calls2 b2.entries)) = record {
       legal = (b2.state, enters.legal);
@@ -118,16 +118,16 @@ sound table n calls v v1 v2 b b2 calls2 call result is made takes enters gives =
       within = within_at v.options n calls v.seen b b2 calls2 call result found enters;
       numbered = all_below b2.options.seats b2.entries (λ m above. numbered_at v.options n calls v.seen b b2 calls2 call result made found enters m (subst (λ (t : DeskSetup). t.seats ≤ m) options above));
     } in (
-      at ∙ ap (λ (y : View). seated y.options n calls2 y.seen) (sym at),
-      subst (λ (y : View). IsSeat (sitting table n calls2 y)) (sym at) here,
+      at ∙ ap (λ (y : PassKnowledge). seated y.options n calls2 y.seen) (sym at),
+      subst (λ (y : PassKnowledge). IsSeat (sitting table n calls2 y)) (sym at) here,
     )
 
-pub answers : (table table2 : TableId) (n : ℕ) (calls : List (Call × Reply)) (v v1 v2 : View) (b b2 : LoggedRouterState) (calls2 : List (Call × Reply)) (call : Call) (result : Result Reply DeskFault)
+pub answers : (table table2 : TableId) (n : ℕ) (calls : List (Call × Reply)) (v v1 v2 : PassKnowledge) (b b2 : LoggedRouterState) (calls2 : List (Call × Reply)) (call : Call) (result : Result Reply DeskFault)
     → v ≡ seated v.options n calls v.seen → n < v.options.seats → Takes v b v1 → Enters b b2 n calls calls2 call result → Gives v1 b2 v2
     → IfOk result (λ reply. HasCalled (sitting table n calls v) (sitting table2 n calls2 v2) call reply)
 answers table table2 n calls v v1 v2 b b2 calls2 call (Err fault) is made takes enters gives = tt
 answers table table2 n calls v v1 v2 b b2 calls2 call (Ok reply) is made takes enters gives =
-    let seen : v2.seen ≡ b2.entries = ap (λ (y : View). y.seen) (settled n calls v v1 v2 b b2 is takes gives) in
+    let seen : v2.seen ≡ b2.entries = ap (λ (y : PassKnowledge). y.seen) (settled n calls v v1 v2 b b2 is takes gives) in
     let longer = takes.1.1 in record {
       between = longer.0;
       seen = seen ∙ (enters.ok.0 ∙ ap (λ l. l ++ entry n call reply ∷ []) longer.1);
@@ -135,15 +135,15 @@ answers table table2 n calls v v1 v2 b b2 calls2 call (Ok reply) is made takes e
       sound = (sound table2 n calls v v1 v2 b b2 calls2 call (Ok reply) is made takes enters gives).1;
     }
 
-pub refuses : (table table2 : TableId) (n : ℕ) (calls : List (Call × Reply)) (v v1 v2 : View) (b b2 : LoggedRouterState) (calls2 : List (Call × Reply)) (call : Call) (result : Result Reply DeskFault)
+pub refuses : (table table2 : TableId) (n : ℕ) (calls : List (Call × Reply)) (v v1 v2 : PassKnowledge) (b b2 : LoggedRouterState) (calls2 : List (Call × Reply)) (call : Call) (result : Result Reply DeskFault)
     → v ≡ seated v.options n calls v.seen → n < v.options.seats → Takes v b v1 → Enters b b2 n calls calls2 call result → Gives v1 b2 v2
     → IfErr result (λ fault. IsRefused (sitting table n calls v) (sitting table2 n calls2 v2) fault)
 refuses table table2 n calls v v1 v2 b b2 calls2 call (Ok reply) is made takes enters gives = tt
 refuses table table2 n calls v v1 v2 b b2 calls2 call (Err fault) is made takes enters gives =
     let at = settled n calls v v1 v2 b b2 is takes gives in
-    let seen : v2.seen ≡ b2.entries = ap (λ (y : View). y.seen) at in
+    let seen : v2.seen ≡ b2.entries = ap (λ (y : PassKnowledge). y.seen) at in
     let same : b2.entries ≡ b.entries = ap (λ (x : LoggedRouterState). x.entries) enters.err.0 in
-    let options : v2.options ≡ b.options = ap (λ (y : View). y.options) at ∙ enters.options in
+    let options : v2.options ≡ b.options = ap (λ (y : PassKnowledge). y.options) at ∙ enters.options in
     let longer = takes.1.1 in record {
       seen = (longer.0, seen ∙ (same ∙ longer.1));
       calls = enters.err.1;
@@ -178,13 +178,13 @@ as_call b b2 n calls calls2 device limit (Ok reply) e =
 as_call b b2 n calls calls2 device limit (Err fault) e =
     (poll device [], record { options = e.options; legal = e.legal; ok = tt; err = e.err; full = e.full }, tt)
 
-pub polls : (table table2 : TableId) (n : ℕ) (calls : List (Call × Reply)) (v v1 v2 : View) (b b2 : LoggedRouterState) (calls2 : List (Call × Reply)) (device : List ℕ) (limit : ℕ) (result : Result Reply DeskFault)
+pub polls : (table table2 : TableId) (n : ℕ) (calls : List (Call × Reply)) (v v1 v2 : PassKnowledge) (b b2 : LoggedRouterState) (calls2 : List (Call × Reply)) (device : List ℕ) (limit : ℕ) (result : Result Reply DeskFault)
     → v ≡ seated v.options n calls v.seen → n < v.options.seats → Takes v b v1 → SomeCall b b2 n calls calls2 device limit result → Gives v1 b2 v2
     → IfOk result (λ reply. Polls (sitting table n calls v) (sitting table2 n calls2 v2) device limit reply)
 polls table table2 n calls v v1 v2 b b2 calls2 device limit (Err fault) is made takes some gives = tt
 polls table table2 n calls v v1 v2 b b2 calls2 device limit (Ok reply) is made takes some gives =
     let call = some.0 in
-    let options : v2.options ≡ b2.options = ap (λ (y : View). y.options) (settled n calls v v1 v2 b b2 is takes gives) in
+    let options : v2.options ≡ b2.options = ap (λ (y : PassKnowledge). y.options) (settled n calls v v1 v2 b b2 is takes gives) in
     let all = answers table table2 n calls v v1 v2 b b2 calls2 call (Ok reply) is made takes some.1 gives in record {
       taken = some.2.0;
       may = subst (λ (t : DeskSetup). MayTake t.feeds device limit some.2.0 reply) (sym options) some.2.2;

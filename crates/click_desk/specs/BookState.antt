@@ -6,7 +6,10 @@ use Rattle.click_router.specs.State.{RouterState}
 use Rattle.click_desk.specs.declared.entry.Entry.{Entry}
 use Rattle.click_desk.specs.SeatStates.{SeatState}
 
--- A book. `keeps` says whether its entries are stored; otherwise they are ghost state.
+-- A book: what closing a desk returns. `opening` is the text of the configuration that the desk was
+-- opened with, and `router` is the router that the entries lead to. `keeps` says whether the
+-- entries are stored; otherwise they are ghost state. `consumers` are the desk's ends of the feeds
+-- that are not settled, and `board` identifies the desk's list of published installs.
 pub record BookState : Type 0 where
   pub opening : List ℕ
   pub keeps : Bool

@@ -10,12 +10,12 @@ ghost use Rattle.click_desk.specs.Polls.{polled, without};
 
 use crate::entry::Entry;
 use crate::seat::Seat;
+use crate::trail::Trail;
 use crate::watch::View;
 use click_base::sequence::Sequence;
 use click_packet::StoredPacket;
-use click_rings::{FeedEnd, PacketConsumer, place_of};
+use click_rings::{FeedConsumer, FeedEnd, place_of};
 use click_router::{Install, Router};
-use click_trail::Trail;
 use click_views::ClosedPublisher;
 use std::alloc::Global;
 use std::marker::Model;
@@ -32,7 +32,7 @@ pub struct Book<T> {
     pub entries: Trail<Entry>,
     pub router: Router<T>,
     pub seats: Vec<Seat<T>>,
-    pub(crate) consumers: Vec<PacketConsumer>,
+    pub(crate) consumers: Vec<FeedConsumer>,
     pub(crate) published: ClosedPublisher<Install>,
 }
 

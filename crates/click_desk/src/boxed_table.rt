@@ -15,13 +15,13 @@ pub struct BoxedTable<T> {
 }
 
 impl<T: Handlers> Handlers for BoxedTable<T> {
-    fn record(
+    fn step_stored(
         &self,
         running: &mut RunningConfig,
         alloc: Global,
         call: &Call,
         room: Option<PacketRoom>,
     ) -> Result<StoredReply, StepFault> {
-        self.table.record(running, alloc, call, room)
+        self.table.step_stored(running, alloc, call, room)
     }
 }

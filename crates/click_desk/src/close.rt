@@ -14,7 +14,7 @@ use crate::book::Book;
 use crate::desk::{Desk, take};
 use crate::logged_router::LoggedRouter;
 use crate::options::DeskOptions;
-use crate::rule::{Agent, DeskPass, Meeting, Queue};
+use crate::rule::{Audit, Closer, DeskPass, Queue};
 use crate::seat::Seat;
 use std::sync::Wait;
 use std::sync::atomic::AtomicU32;
@@ -65,7 +65,7 @@ fn agent<T>(queue: &Queue<T>, seat: &mut Seat<T>) -> DeskPass<T>
     ensures same { seat.new ≡ seat.old }
     ensures agent { IsPassOf queue.now result × (view result ≡ agent_of (setup_of seat.old.desk.options seat.old.feeds)) }
 {
-    queue.another::<Agent>(&mut seat.pass)
+    queue.another::<Closer>(&mut seat.pass)
 }
 
 /// Compares the whole history, which the agent holds, with what the seat knows. Returns the agent.
@@ -79,9 +79,9 @@ fn audit<T>(queue: &Queue<T>, seat: &mut Seat<T>, agent: DeskPass<T>) -> DeskPas
     ensures agent { IsPassOf queue.now result × (view result ≡ holding (setup_of seat.old.desk.options seat.old.feeds) (view agent).seen) }
     ensures entered { IsEntered (view agent).seen seat.old }
 {
-    queue.absorb::<Meeting>(&mut seat.pass, agent);
-    queue.learn_as::<Meeting>(&mut seat.pass);
-    queue.another::<Meeting>(&mut seat.pass)
+    queue.absorb::<Audit>(&mut seat.pass, agent);
+    queue.learn_as::<Audit>(&mut seat.pass);
+    queue.another::<Audit>(&mut seat.pass)
 }
 
 /// Compares the whole history, which the agent holds, with what each seat knows.

@@ -50,7 +50,7 @@ impl<T, R: Wait + Drop> Model for Desk<T, R> {
 }
 
 /// The maximum number of yields between two attempts to take the logged router.
-const MOST_YIELDS: u32 = 4;
+const MAX_YIELDS: u32 = 4;
 
 /// Yields the core `times` times.
 fn yield_times(times: u32) {
@@ -75,7 +75,7 @@ fn wait_for<T, R: Wait>(rt: &R, queue: &Queue<T>, pass: &mut DeskPass<T>) -> Log
         yield_times(yields);
         match queue.try_pop_as::<Take>(pass) {
             Some(logged_router) => return logged_router,
-            None => yields = yields.saturating_mul(2).min(MOST_YIELDS),
+            None => yields = yields.saturating_mul(2).min(MAX_YIELDS),
         }
     }
     unreachable!()
@@ -165,14 +165,14 @@ impl<T: Handlers, R: Wait + Drop> Desk<T, R> {
         ensures ok { IfOk result (λ reply. Calls seat.old seat.new call reply) }
         ensures err { IfErr result (λ fault. IsRefused seat.old seat.new fault) }
     {
-        entered_reply(self.record(rt, seat, call))
+        entered_reply(self.call_stored(rt, seat, call))
     }
 
     /// Makes one call, as `call` does, and returns the reply in the form that the history stores.
     ///
     /// perf: a `StoredReply` is small; a `Reply` has room for a packet.
     #[inline(always)]
-    pub fn record<S: Wait>(
+    pub fn call_stored<S: Wait>(
         &self,
         rt: &S,
         seat: &mut Seat<T>,
@@ -184,11 +184,11 @@ impl<T: Handlers, R: Wait + Drop> Desk<T, R> {
         ensures ok { IfOk result (λ reply. Calls seat.old seat.new call reply) }
         ensures err { IfErr result (λ fault. IsRefused seat.old seat.new fault) }
     {
-        let rings = self.install_signal.is_some() && call.swap_text().is_some();
+        let must_signal = self.install_signal.is_some() && call.swap_text().is_some();
         let mut logged_router = take(rt, &self.queue, &self.waiting, &mut seat.pass);
         let result = logged_router.enter(rt, self.alloc, seat.number, &mut seat.calls, call);
         seat.notice = logged_router.notice();
-        if rings {
+        if must_signal {
             self.signal(rt, &seat.notice);
         }
         give(rt, &self.queue, &mut seat.pass, logged_router);

@@ -11,10 +11,11 @@ pub mod laws;
 mod logged_router;
 mod open;
 mod options;
+mod pass_knowledge;
 mod polling;
 mod rule;
 mod seat;
-mod view;
+mod trail;
 mod watch;
 
 pub use book::{Book, SettleFault, SettleRefused};
@@ -25,4 +26,5 @@ pub use entry::Entry;
 pub use logged_router::DeskFault;
 pub use open::{OpenFault, OpenRefused};
 pub use seat::Seat;
+pub use trail::Trail;
 pub use watch::{Notice, View};

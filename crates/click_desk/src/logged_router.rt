@@ -1,6 +1,6 @@
 //! The logged router: the router with its history and its feeds, as one value.
 
-ghost use Rattle.std.specs.Prelude.{◌≡◌, ◌++◌, ◌∷◌, ◌↔◌, [], length, map, false, IfOk, IfErr, OnErr, Ok, Err, IsTrue, MatchResult, true, is_some};
+ghost use Rattle.std.specs.Prelude.{◌≡◌, ◌++◌, ◌∷◌, ◌↔◌, [], length, map, false, IfOk, IfErr, OnErr, OnOk, Ok, Err, IsTrue, MatchResult, true, is_some};
 ghost use Rattle.std.specs.List.{All};
 ghost use Rattle.click_rings.specs.Feeds.{name_of, have_distinct_devices};
 ghost use Rattle.click_router.specs.One.{is_transmit, sends_packet, holds_memory};
@@ -16,13 +16,13 @@ ghost use Rattle.click_desk.specs.Polls.{IsPolled};
 
 use crate::entry::Entry;
 use crate::options::DeskOptions;
+use crate::trail::Trail;
 use crate::watch::Notice;
 use click_packet::PacketRoom;
-use click_rings::PacketConsumer;
+use click_rings::FeedConsumer;
 use click_router::{
     Call, CompactReply, FaultKind, Handlers, Install, Router, StepFault, StoredReply, prepare,
 };
-use click_trail::Trail;
 use click_views::{ClosedPublisher, Publisher};
 use std::alloc::{AllocError, Global};
 use std::marker::Model;
@@ -45,7 +45,7 @@ pub enum DeskFault {
 pub(crate) struct RouterLog {
     pub(crate) options: DeskOptions,
     pub(crate) entries: Trail<Entry>,
-    pub(crate) consumers: Vec<PacketConsumer>,
+    pub(crate) consumers: Vec<FeedConsumer>,
     pub(crate) published: Publisher<Install>,
 }
 
@@ -98,7 +98,7 @@ impl<T> LoggedRouter<T> {
         DeskOptions,
         Trail<Entry>,
         Router<T>,
-        Vec<PacketConsumer>,
+        Vec<FeedConsumer>,
         ClosedPublisher<Install>,
     )
         ensures options { self.options ≡ setup_of result.0 (map name_of result.3.items) }
@@ -140,10 +140,10 @@ impl<T> LoggedRouter<T> {
 
 /// Room for three copies of a packet: in the reply, in the history and in a seat's list.
 #[derive(Drop)]
-pub(crate) struct Rooms {
-    told: Option<PacketRoom>,
-    entered: Option<PacketRoom>,
-    listed: Option<PacketRoom>,
+pub(crate) struct PacketRooms {
+    reply: Option<PacketRoom>,
+    history: Option<PacketRoom>,
+    seat: Option<PacketRoom>,
 }
 
 /// Room for the packet that the call may send.
@@ -156,27 +156,27 @@ fn room_for(alloc: Global, call: &Call) -> Result<Option<PacketRoom>, AllocError
     }
 }
 
-impl Rooms {
+impl PacketRooms {
     /// Reserves room for a packet. Fails with out of memory.
     #[cold]
     #[inline(never)]
-    fn new(alloc: Global) -> Result<Rooms, AllocError>
-        ensures { IfOk result (λ rooms. (is_some rooms.told ≡ true) × (is_some rooms.entered ≡ true) × (is_some rooms.listed ≡ true)) }
+    fn new(alloc: Global) -> Result<PacketRooms, AllocError>
+        ensures { IfOk result (λ rooms. (is_some rooms.reply ≡ true) × (is_some rooms.history ≡ true) × (is_some rooms.seat ≡ true)) }
     {
-        Ok(Rooms {
-            told: Some(PacketRoom::new(alloc)?),
-            entered: Some(PacketRoom::new(alloc)?),
-            listed: Some(PacketRoom::new(alloc)?),
+        Ok(PacketRooms {
+            reply: Some(PacketRoom::new(alloc)?),
+            history: Some(PacketRoom::new(alloc)?),
+            seat: Some(PacketRoom::new(alloc)?),
         })
     }
 
     /// Returns no room, for a call that sends no packet.
     #[inline(always)]
-    fn none() -> Rooms {
-        Rooms {
-            told: None,
-            entered: None,
-            listed: None,
+    fn none() -> PacketRooms {
+        PacketRooms {
+            reply: None,
+            history: None,
+            seat: None,
         }
     }
 }
@@ -228,7 +228,7 @@ fn swap<T, R: Wait>(
         }
         Err(fault) => match fault.kind {
             FaultKind::NoMemory => Err(StepFault::NoMemory),
-            _ => match StoredReply::faulty(alloc, fault) {
+            _ => match StoredReply::config_refused(alloc, fault) {
                 Ok(reply) => Ok(reply),
                 Err(_) => Err(StepFault::NoMemory),
             },
@@ -256,8 +256,54 @@ fn answer<T: Handlers, R: Wait>(
 {
     match call.swap_text() {
         Some(text) => swap(rt, alloc, router, published, text),
-        None => router.record(alloc, call, room),
+        None => router.step_stored(alloc, call, room),
     }
+}
+
+/// Answers one call, and copies the reply for the history and for a seat's list. If this fails with
+/// out of memory, nothing has changed.
+#[inline(always)]
+fn answer_with_copies<T: Handlers, R: Wait>(
+    rt: &R,
+    alloc: Global,
+    router: &mut Router<T>,
+    published: &mut Publisher<Install>,
+    call: &Call,
+    rooms: PacketRooms,
+) -> Result<(StoredReply, StoredReply, StoredReply), StepFault>
+    requires { is_transmit call.now ≡ true → (is_some rooms.reply ≡ true) × (is_some rooms.history ≡ true) × (is_some rooms.seat ≡ true) }
+    ensures board { published.new.board ≡ published.old.board }
+    ensures answer { MatchResult result (λ replies. Answers router.old call.now router.new replies.0) (λ _. router.new ≡ router.old) }
+    ensures list { MatchResult result (λ replies. published.new.list ≡ published.old.list ++ installed call.now replies.0) (λ _. published.new.list ≡ published.old.list) }
+    ensures copies { IfOk result (λ replies. (replies.1 ≡ replies.0) × (replies.2 ≡ replies.0)) }
+{
+    let PacketRooms {
+        reply: told,
+        history: entered,
+        seat: listed,
+    } = rooms;
+    let reply = answer(rt, alloc, router, published, call, told)?;
+    // Only the reply of a call that changed nothing holds memory, so this failure leaves nothing
+    // changed.
+    let Ok((entered, listed)) = copy_twice(alloc, &reply, entered, listed) else {
+        return Err(StepFault::NoMemory);
+    };
+    Ok((reply, entered, listed))
+}
+
+/// Makes room for one more entry in the history and in a seat's list.
+#[inline(always)]
+fn reserve_both(
+    entries: &mut Trail<Entry>,
+    calls: &mut Trail<(Call, StoredReply)>,
+) -> Result<(), AllocError>
+    requires { (entries.old.keeps ≡ true) × (calls.old.keeps ≡ true) }
+    ensures entries { (entries.new.keeps ≡ entries.old.keeps) × (entries.new.items ≡ entries.old.items) }
+    ensures calls { (calls.new.keeps ≡ calls.old.keeps) × (calls.new.items ≡ calls.old.items) }
+    ensures ready { OnOk result ((entries.new.ready ≡ true) × (calls.new.ready ≡ true)) }
+{
+    entries.reserve()?;
+    calls.reserve()
 }
 
 /// Enters a call with its reply in a history and a list that are ghost state. Never allocates.
@@ -318,7 +364,7 @@ impl<T: Handlers> LoggedRouter<T> {
         if self.is_full() {
             return Err(DeskFault::HistoryFull);
         }
-        self.enter_any(rt, alloc, number, calls, call)
+        self.enter_call(rt, alloc, number, calls, call)
     }
 
     /// Makes a Round, as `enter` does. Returns the number of packets that the tasks emitted or
@@ -347,26 +393,26 @@ impl<T: Handlers> LoggedRouter<T> {
         let router_log = &mut *self.router_log;
         if !router_log.entries.keeps() {
             let worked = self.router.round();
-            let reply = StoredReply::worked(worked);
+            let reply = StoredReply::round_done(worked);
             let _ = note(&mut router_log.entries, calls, number, Call::Round, reply);
             return Ok(worked);
         }
-        if router_log.entries.reserve().is_err() || calls.reserve().is_err() {
+        if reserve_both(&mut router_log.entries, calls).is_err() {
             return Err(DeskFault::NoMemory);
         }
         let worked = self.router.round();
         router_log.entries.add(Entry {
             seat: number,
             call: Call::Round,
-            reply: StoredReply::worked(worked),
+            reply: StoredReply::round_done(worked),
         });
-        calls.add((Call::Round, StoredReply::worked(worked)));
+        calls.add((Call::Round, StoredReply::round_done(worked)));
         Ok(worked)
     }
 
     /// Makes a call, as `enter` does, that may send a packet and may allocate.
     #[inline(always)]
-    fn enter_any<R: Wait>(
+    fn enter_call<R: Wait>(
         &mut self,
         rt: &R,
         alloc: Global,
@@ -385,31 +431,31 @@ impl<T: Handlers> LoggedRouter<T> {
         ensures fault { IfErr result (λ fault. fault ≡ DeskFault.NoMemory) }
     {
         if self.router_log.options.room.is_none() {
-            return self.enter_without_history(rt, alloc, number, calls, call);
+            return self.enter_unkept(rt, alloc, number, calls, call);
         }
         if let Call::Transmit { .. } = &call {
-            let Ok(rooms) = Rooms::new(alloc) else {
+            let Ok(rooms) = PacketRooms::new(alloc) else {
                 return Err(DeskFault::NoMemory);
             };
-            return self.enter_with_history(rt, alloc, number, calls, call, rooms);
+            return self.enter_kept(rt, alloc, number, calls, call, rooms);
         }
-        self.enter_with_history(rt, alloc, number, calls, call, Rooms::none())
+        self.enter_kept(rt, alloc, number, calls, call, PacketRooms::none())
     }
 
     /// Makes a call, and stores copies of it and of its reply in both lists. `rooms` is for a
     /// packet that it sends.
     #[inline(always)]
-    fn enter_with_history<R: Wait>(
+    fn enter_kept<R: Wait>(
         &mut self,
         rt: &R,
         alloc: Global,
         number: usize,
         calls: &mut Trail<(Call, StoredReply)>,
         call: Call,
-        rooms: Rooms,
+        rooms: PacketRooms,
     ) -> Result<StoredReply, DeskFault>
         requires call { is_poll call ≡ false }
-        requires rooms { is_transmit call ≡ true → (is_some rooms.told ≡ true) × (is_some rooms.entered ≡ true) × (is_some rooms.listed ≡ true) }
+        requires rooms { is_transmit call ≡ true → (is_some rooms.reply ≡ true) × (is_some rooms.history ≡ true) × (is_some rooms.seat ≡ true) }
         requires keeps { (is_some self.old.options.room ≡ true) × (calls.old.keeps ≡ true) }
         ensures options { self.new.options ≡ self.old.options }
         ensures legal { Legal self.new.options.opening self.new.entries self.new.state }
@@ -419,31 +465,22 @@ impl<T: Handlers> LoggedRouter<T> {
         ensures keeps { calls.new.keeps ≡ calls.old.keeps }
         ensures fault { IfErr result (λ fault. fault ≡ DeskFault.NoMemory) }
     {
+        // proof: borrowed first, so that the invariant of the log is known at each return.
         let router_log = &mut *self.router_log;
-        if router_log.entries.reserve().is_err() || calls.reserve().is_err() {
-            return Err(DeskFault::NoMemory);
-        }
         let Ok(listed) = call.copy(alloc) else {
             return Err(DeskFault::NoMemory);
         };
-        let Rooms {
-            told,
-            entered,
-            listed: beside,
-        } = rooms;
-        let Ok(reply) = answer(
+        if reserve_both(&mut router_log.entries, calls).is_err() {
+            return Err(DeskFault::NoMemory);
+        }
+        let Ok((reply, entered, told)) = answer_with_copies(
             rt,
             alloc,
             &mut self.router,
             &mut router_log.published,
             &call,
-            told,
+            rooms,
         ) else {
-            return Err(DeskFault::NoMemory);
-        };
-        // Only the reply of a call that changed nothing holds memory, so this failure leaves
-        // nothing changed.
-        let Ok((entered, told)) = copy_twice(alloc, &reply, entered, beside) else {
             return Err(DeskFault::NoMemory);
         };
         router_log.entries.add(Entry {
@@ -458,7 +495,7 @@ impl<T: Handlers> LoggedRouter<T> {
     /// Makes a call without storing it. Allocates only what its step needs and what its reply
     /// holds.
     #[inline(always)]
-    fn enter_without_history<R: Wait>(
+    fn enter_unkept<R: Wait>(
         &mut self,
         rt: &R,
         alloc: Global,
@@ -476,6 +513,7 @@ impl<T: Handlers> LoggedRouter<T> {
         ensures keeps { calls.new.keeps ≡ calls.old.keeps }
         ensures fault { IfErr result (λ fault. fault ≡ DeskFault.NoMemory) }
     {
+        // proof: borrowed first, so that the invariant of the log is known at each return.
         let router_log = &mut *self.router_log;
         let Ok(room) = room_for(alloc, &call) else {
             return Err(DeskFault::NoMemory);

@@ -14,12 +14,12 @@ ghost use Rattle.click_rings.specs.Feeds.{name_of};
 use crate::desk::{Desk, give};
 use crate::logged_router::{LoggedRouter, RouterLog};
 use crate::options::DeskOptions;
-use crate::rule::{DeskPass, NextSeat, Queue};
+use crate::rule::{DeskPass, Queue, SplitSeat};
 use crate::seat::Seat;
+use crate::trail::Trail;
 use crate::watch::{Notice, View};
-use click_rings::{Inlet, PacketConsumer, have_distinct_devices};
+use click_rings::{FeedConsumer, Inlet, have_distinct_devices};
 use click_router::{ConfigFault, FaultKind, Install, Prepared, Router, prepare};
-use click_trail::Trail;
 use click_views::{InstallSignal, Publisher};
 use std::alloc::{AllocError, Global};
 use std::sync::Wait;
@@ -27,13 +27,13 @@ use std::sync::atomic::AtomicU32;
 use thiserror::Error;
 
 /// The maximum number of seats of a desk.
-const MOST_SEATS: usize = 256;
+const MAX_SEATS: usize = 256;
 
 /// The maximum number of inlets of a desk.
-const MOST_INLETS: usize = 16;
+const MAX_INLETS: usize = 16;
 
 /// The maximum number of views that a desk is opened with.
-const MOST_VIEWS: usize = 16;
+const MAX_VIEWS: usize = 16;
 
 /// The fault for which a desk was not opened.
 #[derive(Debug, Drop, Error)]
@@ -93,7 +93,7 @@ struct Opening<T, S: Wait + Drop> {
 
 /// Returns a router log without entries, with room for this many feeds. It stores its entries if
 /// their number has a bound. Fails with out of memory.
-fn empty_ledger(
+fn empty_log(
     alloc: Global,
     options: DeskOptions,
     inlets: usize,
@@ -109,6 +109,29 @@ fn empty_ledger(
         published,
     };
     Ok(Box::new(alloc, router_log)?)
+}
+
+/// Makes the log of a desk of these sizes, and publishes the opening text in it. Fails with out of
+/// memory.
+fn open_ledger<R: Wait>(
+    rt: &R,
+    alloc: Global,
+    text: &[u8],
+    prepared: &Prepared,
+    sizes: Sizes,
+    inlets: usize,
+) -> Result<Box<RouterLog>, AllocError>
+    requires { IsOpened text.now prepared.now }
+    ensures options { IfOk result (λ l. l.value.options ≡ record { opening = text.now; room = sizes.room; seats = sizes.seats; origin = l.value.published.board }) }
+    ensures published { IfOk result (λ l. l.value.published ≡ record { board = l.value.published.board; list = text.now ∷ [] }) }
+    ensures empty { IfOk result (λ l. (l.value.entries.items ≡ []) × (l.value.entries.keeps ≡ is_some sizes.room)) }
+    ensures consumers { IfOk result (λ l. (l.value.consumers.items ≡ []) × (inlets ≤ vec_capacity l.value.consumers)) }
+{
+    let install = Install::of_prepared(alloc, text, prepared)?;
+    // Without views, published configurations are not stored.
+    let published = Publisher::open(rt, alloc, install, sizes.views > 0)?;
+    let inside = DeskOptions::of(alloc, text, sizes.room, sizes.seats, published.origin())?;
+    empty_log(alloc, inside, inlets, published)
 }
 
 /// Allocates all memory that a desk of these sizes needs. Fails with out of memory.
@@ -129,12 +152,9 @@ fn make_parts<T, R: Wait>(
     ensures views { IfOk result (λ p. (p.views.items ≡ []) × (sizes.views ≤ vec_capacity p.views)) }
     ensures consumers { IfOk result (λ p. (p.router_log.value.consumers.items ≡ []) × (inlets ≤ vec_capacity p.router_log.value.consumers)) }
 {
-    let install = Install::of_prepared(alloc, text, prepared)?;
-    // Without views, published configurations are not stored.
-    let published = Publisher::open(rt, alloc, install, sizes.views > 0)?;
-    let inside = DeskOptions::of(alloc, text, sizes.room, sizes.seats, published.origin())?;
-    let beside = DeskOptions::of(alloc, text, sizes.room, sizes.seats, published.origin())?;
-    let router_log = empty_ledger(alloc, inside, inlets, published)?;
+    let router_log = open_ledger(rt, alloc, text, prepared, sizes, inlets)?;
+    let origin = router_log.published.origin();
+    let beside = DeskOptions::of(alloc, text, sizes.room, sizes.seats, origin)?;
     let given = Vec::with_capacity(alloc, sizes.seats)?;
     let views = Vec::with_capacity(alloc, sizes.views)?;
     let (queue, maker) = Queue::<T>::ruled(alloc, 1)?;
@@ -149,13 +169,13 @@ fn make_parts<T, R: Wait>(
 }
 
 /// Opens the inlets. Never allocates.
-fn open_all(inlets: Vec<Inlet>, consumers: &mut Vec<PacketConsumer>)
+fn open_all(inlets: Vec<Inlet>, consumers: &mut Vec<FeedConsumer>)
     requires { (consumers.old.items ≡ []) × (length inlets.items ≤ vec_capacity consumers.old) }
     ensures names { map name_of consumers.new.items ≡ inlets.items }
     ensures fresh { All (λ t. t.drawn ≡ []) consumers.new.items }
 {
     for inlet in inlets {
-        consumers.push_reserved(PacketConsumer::of(inlet));
+        consumers.push_reserved(FeedConsumer::of(inlet));
     }
 }
 
@@ -179,7 +199,7 @@ fn make_seats<T>(
     ensures { given.new.items ≡ seats_below (record { table = queue.now.table.shared.table_id; options = terms_of (view maker).options }) (view maker).options.feeds count }
 {
     for number in 0..count {
-        let pass = queue.another::<NextSeat>(&mut maker);
+        let pass = queue.another::<SplitSeat>(&mut maker);
         given.push_reserved(Seat {
             pass,
             number,
@@ -265,16 +285,16 @@ fn size_fault(seats: usize, inlets: &[Inlet], views: usize) -> Option<OpenFault>
     ensures fits { IfNone result (AreFit seats inlets.now × (views ≤ 16)) }
     ensures fault { IfSome result (λ fault. (text : List ℕ) → IsViewFault seats inlets.now views text fault) }
 {
-    if seats == 0 || seats > MOST_SEATS {
+    if seats == 0 || seats > MAX_SEATS {
         return Some(OpenFault::SeatCount);
     }
     if !have_distinct_devices(inlets) {
         return Some(OpenFault::DeviceTwice);
     }
-    if inlets.len() > MOST_INLETS {
+    if inlets.len() > MAX_INLETS {
         return Some(OpenFault::InletCount);
     }
-    if views > MOST_VIEWS {
+    if views > MAX_VIEWS {
         return Some(OpenFault::ViewCount);
     }
     None

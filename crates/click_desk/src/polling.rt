@@ -12,11 +12,11 @@ ghost use Rattle.click_desk.specs.Polls.{IsPolled, MayTake};
 
 use crate::entry::Entry;
 use crate::logged_router::{DeskFault, LoggedRouter, copy_twice, note};
+use crate::trail::Trail;
 use click_base::sequence::Sequence;
 use click_packet::{PacketRoom, StoredPacket};
-use click_rings::{PacketConsumer, available_in, draw_from};
+use click_rings::{FeedConsumer, available_in, draw_from};
 use click_router::{Call, Handlers, Reply, Router, StoredReply};
-use click_trail::Trail;
 use std::alloc::{AllocError, Global};
 
 /// Reserves room for `count` packets. Fails with out of memory.
@@ -91,7 +91,7 @@ fn copy_all(
 /// none if the configuration has no source of the device.
 fn poll_size<T>(
     router: &Router<T>,
-    consumers: &mut Vec<PacketConsumer>,
+    consumers: &mut Vec<FeedConsumer>,
     device: &[u8],
     most: usize,
 ) -> usize
@@ -108,7 +108,7 @@ fn poll_size<T>(
 
 impl PollRoom {
     /// Draws up to `most` packets of the device, and returns the Poll with them. Never allocates.
-    fn draw(self, consumers: &mut [PacketConsumer], device: &[u8], most: usize) -> Call
+    fn draw(self, consumers: &mut [FeedConsumer], device: &[u8], most: usize) -> Call
         requires apart { have_distinct_devices (map name_of consumers.old) ≡ true }
         requires room { (self.name ≡ device.now) × (self.drawn.items ≡ []) × (most ≤ vec_capacity self.drawn) }
         ensures { (taken : List Packet) × (result ≡ poll device.now taken) × (consumers.new ≡ drew device.now taken consumers.old)
@@ -129,7 +129,7 @@ impl PollRoom {
 impl PollRooms {
     /// Draws up to `most` packets of the device, and returns two copies of the Poll with them.
     /// Never allocates.
-    fn draw(self, consumers: &mut [PacketConsumer], device: &[u8], most: usize) -> (Call, Call)
+    fn draw(self, consumers: &mut [FeedConsumer], device: &[u8], most: usize) -> (Call, Call)
         requires apart { have_distinct_devices (map name_of consumers.old) ≡ true }
         requires names { (self.entered.name ≡ device.now) × (self.listed.name ≡ device.now) }
         requires drawn { (self.entered.drawn.items ≡ []) × (most ≤ vec_capacity self.entered.drawn) }
@@ -187,14 +187,14 @@ impl<T: Handlers> LoggedRouter<T> {
             return Err(DeskFault::HistoryFull);
         }
         if self.router_log.options.room.is_some() {
-            self.enter_poll_with_history(alloc, number, calls, device, most)
+            self.enter_kept_poll(alloc, number, calls, device, most)
         } else {
-            self.enter_poll_without_history(alloc, number, calls, device, most)
+            self.enter_unkept_poll(alloc, number, calls, device, most)
         }
     }
 
     /// Makes a poll, and stores copies of it and of its reply in both lists.
-    fn enter_poll_with_history(
+    fn enter_kept_poll(
         &mut self,
         alloc: Global,
         number: usize,
@@ -221,7 +221,7 @@ impl<T: Handlers> LoggedRouter<T> {
         };
         let (call, listed) = rooms.draw(router_log.consumers.as_mut_slice(), device, count);
         // Nothing fails from here on: a poll and its reply allocate nothing.
-        let Ok(reply) = self.router.record(alloc, &call, None) else {
+        let Ok(reply) = self.router.step_stored(alloc, &call, None) else {
             unreachable!()
         };
         let Ok((entered, told)) = copy_twice(alloc, &reply, None, None) else {
@@ -237,7 +237,7 @@ impl<T: Handlers> LoggedRouter<T> {
     }
 
     /// Makes a poll without storing it. The packets that it drew are freed once they have entered.
-    fn enter_poll_without_history(
+    fn enter_unkept_poll(
         &mut self,
         alloc: Global,
         number: usize,
@@ -261,7 +261,7 @@ impl<T: Handlers> LoggedRouter<T> {
         };
         let call = room.draw(router_log.consumers.as_mut_slice(), device, seen);
         // Nothing fails from here on.
-        let Ok(reply) = self.router.record(alloc, &call, None) else {
+        let Ok(reply) = self.router.step_stored(alloc, &call, None) else {
             unreachable!()
         };
         Ok(note(&mut router_log.entries, calls, number, call, reply))

@@ -1,15 +1,15 @@
 //! The single-slot queue that holds the logged router while no call is in progress, and its rule.
 
 use crate::logged_router::LoggedRouter;
-use crate::view::View;
+use crate::pass_knowledge::PassKnowledge;
 use crossbeam_queue::protocol::{Join, Lesson, Outcome, Protocol, Split};
 use crossbeam_queue::{Pass, RuledArrayQueue};
 
 /// The rule of the queue: an invariant of its content and of what all passes know.
-pub struct OnePlace;
+pub struct SingleSlot;
 
-impl<T> Protocol<LoggedRouter<T>, View> for OnePlace {
-    ghost use Rattle.click_desk.specs.Rule.{OnePlace as TheRule};
+impl<T> Protocol<LoggedRouter<T>, PassKnowledge> for SingleSlot {
+    ghost use Rattle.click_desk.specs.Rule.{SingleSlot as TheRule};
     ghost use Rattle.click_desk.specs.Views.{first as first_view};
 
     ghost holds = { TheRule };
@@ -20,7 +20,7 @@ impl<T> Protocol<LoggedRouter<T>, View> for OnePlace {
 /// The step that takes the logged router.
 pub struct Take;
 
-impl<T> Outcome<LoggedRouter<T>, View> for Take {
+impl<T> Outcome<LoggedRouter<T>, PassKnowledge> for Take {
     ghost use Rattle.click_desk.specs.Views.{Takes};
 
     ghost then = { Takes };
@@ -29,22 +29,22 @@ impl<T> Outcome<LoggedRouter<T>, View> for Take {
 /// The step that gives the logged router back. It finds the queue empty.
 pub struct Give;
 
-impl<T> Outcome<LoggedRouter<T>, View> for Give {
+impl<T> Outcome<LoggedRouter<T>, PassKnowledge> for Give {
     ghost use Rattle.click_desk.specs.Views.{Gives};
 
     ghost then = { Gives };
 }
 
-impl<T> Lesson<LoggedRouter<T>, View> for Give {
+impl<T> Lesson<LoggedRouter<T>, PassKnowledge> for Give {
     ghost use Rattle.std.specs.Prelude.{◌≡◌, [], true};
 
     ghost fact = { λ v items. v.holds ≡ true → items ≡ [] };
 }
 
 /// The split of a pass that makes seats: into itself and the pass of the next seat.
-pub struct NextSeat;
+pub struct SplitSeat;
 
-impl Split<View> for NextSeat {
+impl Split<PassKnowledge> for SplitSeat {
     ghost use Rattle.click_desk.specs.Views.{one_more, next_seat};
 
     ghost left = { one_more };
@@ -53,9 +53,9 @@ impl Split<View> for NextSeat {
 }
 
 /// The split of a pass into itself and a pass without a seat.
-pub struct Agent;
+pub struct Closer;
 
-impl Split<View> for Agent {
+impl Split<PassKnowledge> for Closer {
     ghost use Rattle.click_desk.specs.Views.{agent};
 
     ghost left = { λ v. v };
@@ -65,9 +65,9 @@ impl Split<View> for Agent {
 
 /// The meeting of a seat's pass with the pass that holds the logged router. They are joined,
 /// compare what the seat knows with the history, and are split again.
-pub struct Meeting;
+pub struct Audit;
 
-impl Join<View> for Meeting {
+impl Join<PassKnowledge> for Audit {
     ghost use Rattle.click_desk.specs.Views.{met, nobody};
 
     ghost both = { met };
@@ -75,13 +75,13 @@ impl Join<View> for Meeting {
     ghost spent = { nobody };
 }
 
-impl<T> Lesson<LoggedRouter<T>, View> for Meeting {
+impl<T> Lesson<LoggedRouter<T>, PassKnowledge> for Audit {
     ghost use Rattle.click_desk.specs.Views.{Audits};
 
     ghost fact = { Audits };
 }
 
-impl Split<View> for Meeting {
+impl Split<PassKnowledge> for Audit {
     ghost use Rattle.click_desk.specs.Views.{parted, holding};
 
     ghost left = { parted };
@@ -89,6 +89,6 @@ impl Split<View> for Meeting {
     ghost right = { λ v. holding v.options v.seen };
 }
 
-pub type Queue<T> = RuledArrayQueue<LoggedRouter<T>, View, OnePlace>;
+pub type Queue<T> = RuledArrayQueue<LoggedRouter<T>, PassKnowledge, SingleSlot>;
 
-pub type DeskPass<T> = Pass<LoggedRouter<T>, View>;
+pub type DeskPass<T> = Pass<LoggedRouter<T>, PassKnowledge>;

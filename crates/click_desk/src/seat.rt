@@ -5,9 +5,9 @@ ghost use Rattle.click_desk.specs.SeatStates.{IsSeat};
 ghost use Rattle.click_desk.specs.History.{installs};
 
 use crate::rule::DeskPass;
+use crate::trail::Trail;
 use crate::watch::Notice;
 use click_router::{Call, StoredReply};
-use click_trail::Trail;
 use std::marker::Model;
 
 /// The capability to make calls at a desk, from any thread.

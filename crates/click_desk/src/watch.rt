@@ -4,7 +4,7 @@ ghost use Rattle.std.specs.Prelude.{◌≡◌, ℕ, List, map, IfOk};
 ghost use Rattle.click_router.specs.One.{Listing, IsListing, check};
 ghost use Rattle.click_views.specs.Showing.{BeginsWith, IsLast};
 
-use click_router::{Check, Direction, Install};
+use click_router::{Access, Check, Install};
 use std::alloc::{AllocError, Global};
 use std::marker::Model;
 
@@ -48,10 +48,10 @@ impl View {
     pub fn check_read(&mut self, name: &[u8]) -> Check
         ensures board { self.new.board ≡ self.old.board }
         ensures later { BeginsWith self.new.list self.old.list }
-        ensures answer { (text : List ℕ) × (l : Listing) × IsLast self.new.list text × IsListing text l × (result ≡ check l Direction.Read name.now) }
+        ensures answer { (text : List ℕ) × (l : Listing) × IsLast self.new.list text × IsListing text l × (result ≡ check l Access.Read name.now) }
     {
         self.shown.refresh();
-        self.shown.install().check(Direction::Read, name)
+        self.shown.install().check(Access::Read, name)
     }
 
     /// Returns whether a handler can be written in the last configuration that the view knows of.
@@ -59,10 +59,10 @@ impl View {
     pub fn check_write(&mut self, name: &[u8]) -> Check
         ensures board { self.new.board ≡ self.old.board }
         ensures later { BeginsWith self.new.list self.old.list }
-        ensures answer { (text : List ℕ) × (l : Listing) × IsLast self.new.list text × IsListing text l × (result ≡ check l Direction.Write name.now) }
+        ensures answer { (text : List ℕ) × (l : Listing) × IsLast self.new.list text × IsListing text l × (result ≡ check l Access.Write name.now) }
     {
         self.shown.refresh();
-        self.shown.install().check(Direction::Write, name)
+        self.shown.install().check(Access::Write, name)
     }
 
     /// Returns the names of the elements of the last configuration that the view knows of, in flat

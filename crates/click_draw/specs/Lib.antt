@@ -1,3 +1,4 @@
+pub mod Drawn
 pub mod Measures
 pub mod Picture
 pub mod Svg

@@ -1,12 +1,12 @@
 //! Blocks of nodes that are laid out together: the elements of a compound, or the bends of a line.
 
-use crate::measures::BESIDE;
+use crate::measures::BOX_GAP_PX;
 use crate::order::{Mean, add_to, mean_of};
 use crate::routes::Node;
 use std::alloc::{AllocError, Global};
 
 /// The free width at each side of a compound.
-const ASIDE: u64 = 14;
+const COMPOUND_MARGIN_PX: u64 = 14;
 
 /// The level of a block: what its nodes have in common.
 ///
@@ -96,7 +96,7 @@ pub fn blocks_of(
             let aside = if node.name(unit) == node.chain {
                 0
             } else {
-                ASIDE
+                COMPOUND_MARGIN_PX
             };
             *place = Some(place.unwrap_or(none).with(node, *left, aside));
         }
@@ -179,7 +179,7 @@ fn push_right(block: &mut Block, taken: &mut [Taken]) {
         if let Some(it) = taken.get_mut(row) {
             *it = Taken {
                 whole: block.whole,
-                to: block.right.saturating_add(BESIDE),
+                to: block.right.saturating_add(BOX_GAP_PX),
             };
         }
     }

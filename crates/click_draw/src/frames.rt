@@ -10,10 +10,10 @@ use click_base::sequence::Sequence;
 use std::alloc::{AllocError, Global};
 
 /// The distance between a frame and what is in it, in pixels.
-const AROUND: u64 = 6;
+const FRAME_PADDING_PX: u64 = 6;
 
 /// The additional distance at the top of a frame, for its name, in pixels.
-const TITLE: u64 = 14;
+const FRAME_TITLE_PX: u64 = 14;
 
 /// The sides of a rectangle.
 #[derive(Clone, Copy, Debug, PartialEq, Eq)]
@@ -57,10 +57,10 @@ impl Sides {
     /// Returns these sides, moved outwards to where the frame is.
     fn widened(self) -> Sides {
         Sides {
-            left: self.left.saturating_sub(AROUND),
-            top: self.top.saturating_sub(AROUND + TITLE),
-            right: self.right.saturating_add(AROUND),
-            bottom: self.bottom.saturating_add(AROUND),
+            left: self.left.saturating_sub(FRAME_PADDING_PX),
+            top: self.top.saturating_sub(FRAME_PADDING_PX + FRAME_TITLE_PX),
+            right: self.right.saturating_add(FRAME_PADDING_PX),
+            bottom: self.bottom.saturating_add(FRAME_PADDING_PX),
         }
     }
 

@@ -14,7 +14,7 @@ use crate::looks::{element_width, look_of};
 use crate::order::ordered_rows;
 use crate::placing::{Slot, place};
 use crate::preferred_places::preferred_places_in;
-use crate::routes::{BEND, MOST_BENDS, Route, layout_graph_of};
+use crate::routes::{BEND_WIDTH_PX, MAX_BENDS, Route, layout_graph_of};
 use crate::rows::rows_of;
 use click_base::sequence::Sequence;
 use click_ports::Net;
@@ -86,7 +86,7 @@ fn with_bends(widths: &mut Vec<u64>, count: usize) -> Result<(), AllocError>
     ensures small { OnOk result (All (λ w. w ≤ 32788) widths.new.items) }
 {
     for _bend in 0..count {
-        widths.push(BEND)?;
+        widths.push(BEND_WIDTH_PX)?;
     }
     Ok(())
 }
@@ -95,7 +95,7 @@ fn with_bends(widths: &mut Vec<u64>, count: usize) -> Result<(), AllocError>
 fn bend_count(nodes: usize, elements: usize) -> usize
     ensures { result ≤ 65536 }
 {
-    nodes.saturating_sub(elements).min(MOST_BENDS)
+    nodes.saturating_sub(elements).min(MAX_BENDS)
 }
 
 /// Returns the nodes in the order in which they are placed.

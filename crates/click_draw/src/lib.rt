@@ -11,6 +11,7 @@ mod looks;
 mod loose;
 mod measures;
 mod order;
+mod picture;
 mod placing;
 mod preferred_places;
 mod routes;
@@ -19,4 +20,5 @@ mod svg_writing;
 
 pub use drawing::{Drawing, Figure, Frame, Line, Look, Mark, Point, Rectangle};
 pub use laying_out::layout;
+pub use picture::{picture_of, resolved};
 pub use svg_writing::svg;

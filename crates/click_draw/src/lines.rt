@@ -11,7 +11,7 @@ use click_expand::Connection;
 use std::alloc::{AllocError, Global};
 
 /// The distance by which a line that goes up extends beyond its row, in pixels.
-const AROUND: u64 = 16;
+const LINE_MARGIN_PX: u64 = 16;
 
 /// Returns the place of the input with that mark.
 fn input_place(figure: &Figure, mark: &Mark) -> Point
@@ -51,7 +51,7 @@ fn passage(bend: &Rectangle, rises: bool, size: Size) -> (Point, Point)
     ensures leaves { IsPointInside size.width size.height result.1 }
 {
     let x = bend.left + bend.width / 2;
-    let around = if rises { AROUND } else { 0 };
+    let around = if rises { LINE_MARGIN_PX } else { 0 };
     let upper = Point {
         x,
         y: bend.top.saturating_sub(around),

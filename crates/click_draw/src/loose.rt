@@ -2,13 +2,13 @@
 //! room.
 
 use crate::blocks::{Block, Level, blocks_of};
-use crate::measures::BESIDE;
+use crate::measures::BOX_GAP_PX;
 use crate::preferred_places::{State, preferred};
 use crate::routes::Node;
 use std::alloc::{AllocError, Global};
 
 /// The number of passes over the rows, each from the top down and from the bottom up.
-const ROUNDS: usize = 4;
+const LAYER_SWEEPS: usize = 4;
 
 /// An occupied part of a row, and the node that occupies it if that node may move.
 #[derive(Clone, Copy, Debug, PartialEq, Eq, PartialOrd, Ord)]
@@ -88,12 +88,12 @@ fn line_up(row: &mut [Stretch], state: &mut State, downward: bool) {
     let mut from = 0u64;
     for at in 0..row.len() {
         let to = match row.get(at.saturating_add(1)) {
-            Some(next) => next.left.saturating_sub(BESIDE),
+            Some(next) => next.left.saturating_sub(BOX_GAP_PX),
             None => u64::MAX,
         };
         if let Some(stretch) = row.get_mut(at) {
             *stretch = moved(*stretch, state, downward, from, to);
-            from = stretch.right.saturating_add(BESIDE);
+            from = stretch.right.saturating_add(BOX_GAP_PX);
             if let Some(left) = state.lefts.get_mut(stretch.node) {
                 *left = stretch.left;
             }
@@ -115,7 +115,7 @@ pub fn line_up_all(
         lefts,
         level: Level::All,
     };
-    for _ in 0..ROUNDS {
+    for _ in 0..LAYER_SWEEPS {
         for row in taken.iter_mut() {
             line_up(row.as_mut_slice(), &mut state, true);
         }

@@ -9,29 +9,29 @@ use click_base::Class;
 pub const BOX_HEIGHT: u64 = 46;
 
 /// The free distance at each side of a box, and around the whole picture.
-pub const BESIDE: u64 = 20;
+pub const BOX_GAP_PX: u64 = 20;
 
 /// The distance between two ports of a side.
-const BETWEEN_PORTS: u64 = 20;
+const PORT_SPACING_PX: u64 = 20;
 
 /// The width of a letter of a name.
-const LETTER: u64 = 8;
+const LETTER_WIDTH_PX: u64 = 8;
 
 /// The maximum number of letters that widen a box. A longer text extends beyond it.
-const MOST_LETTERS: usize = 4096;
+const MAX_BOX_LETTERS: usize = 4096;
 
 /// Returns the width of a text.
 fn text_width(text: &[u8]) -> u64
     ensures { result ≡ spec.text_width text.now }
 {
-    LETTER * text.len().min(MOST_LETTERS) as u64
+    LETTER_WIDTH_PX * text.len().min(MAX_BOX_LETTERS) as u64
 }
 
 /// Returns the width of a row of ports.
 fn ports_width(ports: u16) -> u64
     ensures { result ≡ spec.ports_width ports }
 {
-    BETWEEN_PORTS * u64::from(ports)
+    PORT_SPACING_PX * u64::from(ports)
 }
 
 /// Returns the width of an element's box, which its name, its class and its ports determine.
@@ -49,5 +49,5 @@ pub fn box_width(name: &[u8], class: Class, inputs: u16, outputs: u16) -> u64
 pub fn port_offset(width: u64, ports: u16, port: u16) -> u64
     ensures { result ≡ spec.port_offset width ports port }
 {
-    width.saturating_sub(ports_width(ports)) / 2 + BETWEEN_PORTS * u64::from(port) + 10
+    width.saturating_sub(ports_width(ports)) / 2 + PORT_SPACING_PX * u64::from(port) + 10
 }

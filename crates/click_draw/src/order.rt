@@ -5,7 +5,7 @@ use crate::routes::{Link, Node};
 use std::alloc::{AllocError, Global};
 
 /// The number of passes over the rows, each from the top down and from the bottom up.
-const ROUNDS: usize = 6;
+const LAYER_SWEEPS: usize = 6;
 
 /// The length of each row while it is ordered, in arbitrary units.
 const ROW_LEN: u64 = 0x1_0000_0000;
@@ -210,7 +210,7 @@ pub fn ordered_rows(alloc: Global, nodes: &[Node]) -> Result<Vec<Vec<usize>>, Al
     for row in &rows {
         put_places(row.as_slice(), places.as_mut_slice());
     }
-    for _ in 0..ROUNDS {
+    for _ in 0..LAYER_SWEEPS {
         sweep_down(alloc, rows.as_mut_slice(), nodes, places.as_mut_slice())?;
         sweep_up(alloc, rows.as_mut_slice(), nodes, places.as_mut_slice())?;
     }

@@ -6,14 +6,14 @@ ghost use Rattle.click_draw.specs.Picture.{IsInside};
 ghost use Rattle.click_draw.specs.kept.Placing.{AreSlots, IsSized, NoneOverlap};
 
 use crate::drawing::Rectangle;
-use crate::measures::{BESIDE, BOX_HEIGHT};
+use crate::measures::{BOX_GAP_PX, BOX_HEIGHT};
 use std::alloc::{AllocError, Global};
 
 /// The free distance between two rows, in pixels.
-const BETWEEN_ROWS: u64 = 44;
+const ROW_SPACING_PX: u64 = 44;
 
 /// The top of the first row, in pixels, which is below the title of a frame.
-const FIRST_ROW: u64 = 40;
+const FIRST_ROW_PX: u64 = 40;
 
 /// The maximum of a preferred distance from the left, in pixels.
 const FURTHEST: u64 = 0x1_0000_0000;
@@ -53,12 +53,12 @@ impl Pen {
     {
         let new_row = slot.row != self.row;
         let top = if new_row {
-            self.top + BOX_HEIGHT + BETWEEN_ROWS
+            self.top + BOX_HEIGHT + ROW_SPACING_PX
         } else {
             self.top
         };
-        let free = if new_row { BESIDE } else { self.free };
-        let left = free.max(BESIDE + slot.preferred.min(FURTHEST));
+        let free = if new_row { BOX_GAP_PX } else { self.free };
+        let left = free.max(BOX_GAP_PX + slot.preferred.min(FURTHEST));
         let right = left + width;
         let frame = Rectangle {
             left,
@@ -69,7 +69,7 @@ impl Pen {
         let pen = Pen {
             row: slot.row,
             top,
-            free: right + BESIDE,
+            free: right + BOX_GAP_PX,
             furthest: self.furthest.max(right),
         };
         (frame, pen)
@@ -104,8 +104,8 @@ pub fn place(alloc: Global, widths: &[u64], slots: &[Slot]) -> Result<Placed, Al
     let mut boxes = vec![in alloc; none; widths.len()]?;
     let mut pen = Pen {
         row: 0,
-        top: FIRST_ROW,
-        free: BESIDE,
+        top: FIRST_ROW_PX,
+        free: BOX_GAP_PX,
         furthest: 0,
     };
     for (drawn, slot) in slots.iter().enumerate() {
@@ -115,7 +115,7 @@ pub fn place(alloc: Global, widths: &[u64], slots: &[Slot]) -> Result<Placed, Al
     }
     Ok(Placed {
         boxes,
-        width: pen.furthest + BESIDE,
-        height: pen.top + BOX_HEIGHT + BESIDE,
+        width: pen.furthest + BOX_GAP_PX,
+        height: pen.top + BOX_HEIGHT + BOX_GAP_PX,
     })
 }

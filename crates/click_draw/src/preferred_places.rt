@@ -3,12 +3,12 @@
 
 use crate::blocks::{Level, align_blocks, midway, separate_blocks};
 use crate::loose::line_up_all;
-use crate::measures::BESIDE;
+use crate::measures::BOX_GAP_PX;
 use crate::routes::{Link, Node};
 use std::alloc::{AllocError, Global};
 
 /// The number of passes over the rows, each from the top down and from the bottom up.
-const ROUNDS: usize = 8;
+const LAYER_SWEEPS: usize = 8;
 
 /// The left side of each node at the start, so far from 0 that moving left never reaches 0.
 const START: u64 = 0x1_0000_0000;
@@ -74,7 +74,7 @@ fn give_way_right(row: &[usize], state: &State, preferred_places: &mut [u64]) {
         if let Some((left, at)) = before
             && left.name(state.level) == node.name(state.level)
         {
-            let free = at.saturating_add(left.width).saturating_add(BESIDE);
+            let free = at.saturating_add(left.width).saturating_add(BOX_GAP_PX);
             *preferred = free.max(*preferred);
         }
         before = Some((node, *preferred));
@@ -91,7 +91,7 @@ fn give_way_left(row: &[usize], state: &State, preferred_places: &mut [u64]) {
         if let Some((right, at)) = after
             && right.name(state.level) == node.name(state.level)
         {
-            let free = at.saturating_sub(node.width).saturating_sub(BESIDE);
+            let free = at.saturating_sub(node.width).saturating_sub(BOX_GAP_PX);
             *preferred = free.min(*preferred);
         }
         after = Some((node, *preferred));
@@ -130,7 +130,7 @@ fn lefts_of_level(
         lefts: vec![in alloc; START; nodes.len()]?,
         level,
     };
-    for _ in 0..ROUNDS {
+    for _ in 0..LAYER_SWEEPS {
         for row in rows {
             place_row(alloc, row.as_slice(), &mut state, true)?;
         }

@@ -8,10 +8,10 @@ use click_ports::Net;
 use std::alloc::{AllocError, Global};
 
 /// The width of a bend, with the free distance at both sides of its line, in pixels.
-pub const BEND: u64 = 8;
+pub const BEND_WIDTH_PX: u64 = 8;
 
 /// The maximum number of bends. A line for which none is left has no bends.
-pub const MOST_BENDS: usize = 65536;
+pub const MAX_BENDS: usize = 65536;
 
 /// A part of a line that leads to a node in the row above or below. It has the distance of its end
 /// from the node's left side, there and here.
@@ -71,7 +71,7 @@ impl LayoutGraph {
     ) -> Result<(), AllocError> {
         self.nodes.push(Node {
             row,
-            width: BEND,
+            width: BEND_WIDTH_PX,
             compound_path,
             chain,
             above: Vec::new(alloc),
@@ -122,7 +122,7 @@ impl LayoutGraph {
         let mut row = top;
         for _ in 0..bottom.saturating_sub(top).saturating_sub(1).min(room) {
             row = row.saturating_add(1);
-            let bend = (self.nodes.len(), BEND / 2);
+            let bend = (self.nodes.len(), BEND_WIDTH_PX / 2);
             self.add_bend(alloc, row, compound_path.shared(other), first)?;
             self.link(last, bend)?;
             last = bend;
@@ -152,7 +152,10 @@ impl LayoutGraph {
             let bend = self.nodes.len();
             self.add_bend(alloc, row, compound_path.shared(other), first)?;
             if turn > 0 {
-                self.link((bend, BEND / 2), (bend.saturating_sub(1), BEND / 2))?;
+                self.link(
+                    (bend, BEND_WIDTH_PX / 2),
+                    (bend.saturating_sub(1), BEND_WIDTH_PX / 2),
+                )?;
             }
             row = row.saturating_sub(1);
         }
@@ -222,7 +225,7 @@ pub fn layout_graph_of(
         nodes: elements_of(alloc, rows, widths, compound_paths)?,
         routes: Vec::new(alloc),
     };
-    let most = widths.len().saturating_add(MOST_BENDS);
+    let most = widths.len().saturating_add(MAX_BENDS);
     for connection in net.connections() {
         let room = most.saturating_sub(routes.nodes.len());
         let out = offset(

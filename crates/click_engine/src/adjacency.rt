@@ -32,13 +32,13 @@ pub struct Adjacency {
     /// For each element, the element that its output 0 is connected to.
     ///
     /// perf: most elements have no other output.
-    ahead: Vec<usize>,
+    first_targets: Vec<usize>,
     /// For each element, the input that its output 0 is connected to.
     ///
-    /// perf: apart from `ahead`, so that both are found by the index of the element alone.
-    ahead_ports: Vec<u16>,
+    /// perf: apart from `first_targets`, so that both are found by the index of the element alone.
+    first_target_ports: Vec<u16>,
     /// For each element, the output that its input 0 is connected to.
-    behind: Vec<ConnectionEnd>,
+    first_sources: Vec<ConnectionEnd>,
 }
 
 /// The end of no connection: its index is past all elements.
@@ -51,15 +51,15 @@ impl Model for Adjacency {
     ghost use Rattle.std.specs.Prelude.{◌≡◌, length};
     ghost use Rattle.click_ports.specs.Net.{Net as Seen};
     ghost use Rattle.click_engine.specs.Adjacency.{target_in, source_in};
-    ghost use Rattle.click_engine.specs.kept.Tables.{rows_of, AreFirst, AreFirstApart, IsTable};
+    ghost use Rattle.click_engine.specs.kept.Tables.{rows_of, AreFirst, AreFirstTargets, IsTable};
 
     ghost Value = { Seen };
 
     ghost view = { λ w. w.net };
 
     ghost invariant = { λ w. IsTable (rows_of w.targets.items) (target_in w.net.connections)
-        × IsTable (rows_of w.sources.items) (source_in w.net.connections) × AreFirstApart w.ahead.items w.ahead_ports.items (target_in w.net.connections)
-        × (length w.ahead.items ≡ length w.net.shapes) × (length w.ahead_ports.items ≡ length w.net.shapes) × AreFirst w.behind.items (source_in w.net.connections) };
+        × IsTable (rows_of w.sources.items) (source_in w.net.connections) × AreFirstTargets w.first_targets.items w.first_target_ports.items (target_in w.net.connections)
+        × (length w.first_targets.items ≡ length w.net.shapes) × (length w.first_target_ports.items ≡ length w.net.shapes) × AreFirst w.first_sources.items (source_in w.net.connections) };
 }
 
 /// Returns the connection's end at a side: the output that it leaves, or the input that it enters.
@@ -256,7 +256,7 @@ fn first_ends_apart(alloc: Global, rows: &[PortRow]) -> Result<(Vec<usize>, Vec<
 /// Returns the other end at port 0 of element `at`, from a list of elements and one of ports.
 /// Returns `NOWHERE` past the end.
 #[inline(always)]
-fn near_apart(places: &[usize], ports: &[u16], at: usize) -> ConnectionEnd
+fn first_target_in(places: &[usize], ports: &[u16], at: usize) -> ConnectionEnd
     requires { length ports.now ≡ length places.now }
     ensures { result ≡ end_apart places.now ports.now at }
 {
@@ -290,7 +290,7 @@ fn look_up(rows: &[PortRow], at: usize, port: usize) -> Option<ConnectionEnd>
 
 /// Returns the other end at a port of a row, or `NOWHERE` if the port is not connected.
 #[inline(always)]
-pub(crate) fn far_in(row: &[Option<ConnectionEnd>], port: usize) -> ConnectionEnd
+pub(crate) fn target_in(row: &[Option<ConnectionEnd>], port: usize) -> ConnectionEnd
     ensures { result ≡ far_of (slice_index_or row.now port None) }
 {
     match row.get(port) {
@@ -301,7 +301,7 @@ pub(crate) fn far_in(row: &[Option<ConnectionEnd>], port: usize) -> ConnectionEn
 
 /// Returns the other end at port 0 of element `at`. Returns `NOWHERE` past the end.
 #[inline(always)]
-fn near(ports: &[ConnectionEnd], at: usize) -> ConnectionEnd
+fn first_source_in(ports: &[ConnectionEnd], at: usize) -> ConnectionEnd
     ensures { result ≡ slice_index_or ports.now at nowhere }
 {
     match ports.get(at) {
@@ -313,7 +313,7 @@ fn near(ports: &[ConnectionEnd], at: usize) -> ConnectionEnd
 impl Adjacency {
     ghost use Rattle.std.specs.Prelude.{◌≡◌, ℕ, IfOk, None, length, slice_index_or};
     ghost use Rattle.click_engine.specs.Adjacency.{wiring_of};
-    ghost use Rattle.click_engine.specs.kept.Tables.{far_of, AreFirstApart};
+    ghost use Rattle.click_engine.specs.kept.Tables.{far_of, AreFirstTargets};
 
     /// Builds the tables of a net.
     pub fn new(alloc: Global, net: Net) -> Result<Adjacency, AllocError>
@@ -321,15 +321,15 @@ impl Adjacency {
     {
         let targets = joined(alloc, &net, Side::Output, Side::Input)?;
         let sources = joined(alloc, &net, Side::Input, Side::Output)?;
-        let (ahead, ahead_ports) = first_ends_apart(alloc, targets.as_slice())?;
-        let behind = first_ends(alloc, sources.as_slice())?;
+        let (first_targets, first_target_ports) = first_ends_apart(alloc, targets.as_slice())?;
+        let first_sources = first_ends(alloc, sources.as_slice())?;
         Ok(Adjacency {
             net,
             targets,
             sources,
-            ahead,
-            ahead_ports,
-            behind,
+            first_targets,
+            first_target_ports,
+            first_sources,
         })
     }
 
@@ -342,12 +342,15 @@ impl Adjacency {
 
     /// Returns for each element what its output 0 is connected to: the elements, and their inputs.
     #[inline(always)]
-    pub(crate) fn ahead(&self) -> (&[usize], &[u16])
-        ensures first { AreFirstApart result.0.now result.1.now (wiring_of self.now).target }
+    pub(crate) fn first_targets(&self) -> (&[usize], &[u16])
+        ensures first { AreFirstTargets result.0.now result.1.now (wiring_of self.now).target }
         ensures all { length result.0.now ≡ length self.now.shapes }
         ensures ports { length result.1.now ≡ length self.now.shapes }
     {
-        (self.ahead.as_slice(), self.ahead_ports.as_slice())
+        (
+            self.first_targets.as_slice(),
+            self.first_target_ports.as_slice(),
+        )
     }
 
     /// Returns the inputs that the outputs of element `at` are connected to. Outputs past the end
@@ -364,7 +367,7 @@ impl Adjacency {
     pub(crate) fn len(&self) -> usize
         ensures { result ≡ length self.now.shapes }
     {
-        self.ahead.len()
+        self.first_targets.len()
     }
 
     /// Returns the input that a push at an output goes to, or `NOWHERE`.
@@ -373,7 +376,11 @@ impl Adjacency {
         ensures { result ≡ far_of ((wiring_of self.now).target at output) }
     {
         if output == 0 {
-            return near_apart(self.ahead.as_slice(), self.ahead_ports.as_slice(), at);
+            return first_target_in(
+                self.first_targets.as_slice(),
+                self.first_target_ports.as_slice(),
+                at,
+            );
         }
         far_of(look_up(self.targets.as_slice(), at, output))
     }
@@ -383,7 +390,7 @@ impl Adjacency {
     pub(crate) fn first_source(&self, at: usize) -> ConnectionEnd
         ensures { result ≡ far_of ((wiring_of self.now).source at 0) }
     {
-        near(self.behind.as_slice(), at)
+        first_source_in(self.first_sources.as_slice(), at)
     }
 
     /// Returns the output that a pull at an input asks.

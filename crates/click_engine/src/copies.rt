@@ -4,7 +4,7 @@ ghost use Rattle.click_engine.specs.Adjacency.{run_state_of, wiring_of};
 ghost use Rattle.click_engine.specs.kept.Transfers.{Served};
 ghost use Rattle.click_engine.specs.kept.Slots.{ServedAbove};
 
-use crate::adjacency::{Adjacency, far_in};
+use crate::adjacency::{Adjacency, target_in};
 use crate::run_state::RunMemory;
 use crate::transfer_stack::PushFrame;
 use crate::transfers::push_copy;
@@ -27,7 +27,7 @@ fn push_copies(
         let output = push_frame.first;
         push_frame.first += 1;
         push_frame.count -= 1;
-        push_copy(adjacency, run_memory, far_in(row, output), copy);
+        push_copy(adjacency, run_memory, target_in(row, output), copy);
     }
 }
 

@@ -11,14 +11,14 @@ use std::marker::Model;
 /// The number of names that are compared one after another before the index is searched.
 ///
 /// perf: a search of the index takes longer than a few comparisons.
-const NEAR: usize = 8;
+const MAX_UNINDEXED: usize = 8;
 
 /// Names in order, without repetition.
 #[derive(Drop)]
 pub struct DeviceNames {
     all: Names,
-    /// The first names, at most `NEAR`.
-    near: Vec<Vec<u8>>,
+    /// The first names, at most `MAX_UNINDEXED`.
+    unindexed: Vec<Vec<u8>>,
 }
 
 impl Model for DeviceNames {
@@ -29,7 +29,7 @@ impl Model for DeviceNames {
 
     ghost view = { λ n. n.all };
 
-    ghost invariant = { λ n. texts n.near.items ≡ take 8 n.all };
+    ghost invariant = { λ n. texts n.unindexed.items ≡ take 8 n.all };
 }
 
 /// Returns whether two names are equal.
@@ -51,7 +51,7 @@ fn is_name(name: &[u8], other: &[u8]) -> bool
 }
 
 /// Returns the position of the name in the list.
-fn near_place(names: &[Vec<u8>], name: &[u8]) -> Option<usize>
+fn unindexed_place(names: &[Vec<u8>], name: &[u8]) -> Option<usize>
     ensures { result ≡ position (bytes_eq name.now) (texts names.now) }
 {
     for at in 0..names.len() {
@@ -62,13 +62,13 @@ fn near_place(names: &[Vec<u8>], name: &[u8]) -> Option<usize>
     None
 }
 
-/// Appends the name, unless there are `NEAR` names already.
-fn add_near(names: &mut Vec<Vec<u8>>, alloc: Global, name: &[u8]) -> Result<(), AllocError>
+/// Appends the name, unless there are `MAX_UNINDEXED` names already.
+fn add_unindexed(names: &mut Vec<Vec<u8>>, alloc: Global, name: &[u8]) -> Result<(), AllocError>
     requires { vec_len names.old ≤ 8 }
     ensures added { OnOk result (texts names.new.items ≡ take 8 (texts names.old.items ++ name.now ∷ [])) }
     ensures err { OnErr result (names.new.items ≡ names.old.items) }
 {
-    if names.len() >= NEAR {
+    if names.len() >= MAX_UNINDEXED {
         return Ok(());
     }
     names.push(Vec::from_slice(alloc, name)?)?;
@@ -82,7 +82,7 @@ impl DeviceNames {
     {
         DeviceNames {
             all: Names::new(alloc),
-            near: Vec::new(alloc),
+            unindexed: Vec::new(alloc),
         }
     }
 
@@ -93,12 +93,12 @@ impl DeviceNames {
         self.all.has(name)
     }
 
-    /// Returns the position of the name if it is one of the first `NEAR`.
+    /// Returns the position of the name if it is one of the first `MAX_UNINDEXED`.
     #[inline(always)]
-    pub(crate) fn near(&self, name: &[u8]) -> Option<usize>
+    pub(crate) fn find_unindexed(&self, name: &[u8]) -> Option<usize>
         ensures { IfSome result (λ at. position (bytes_eq name.now) self.now ≡ Some at) }
     {
-        near_place(self.near.as_slice(), name)
+        unindexed_place(self.unindexed.as_slice(), name)
     }
 
     /// Returns the position of the name.
@@ -106,9 +106,9 @@ impl DeviceNames {
     pub(crate) fn place(&self, name: &[u8]) -> Option<usize>
         ensures { result ≡ position (bytes_eq name.now) self.now }
     {
-        let near = self.near(name);
-        if near.is_some() {
-            return near;
+        let unindexed = self.find_unindexed(name);
+        if unindexed.is_some() {
+            return unindexed;
         }
         self.all.place(name)
     }
@@ -120,10 +120,10 @@ impl DeviceNames {
         if self.all.has(name) {
             return Ok(());
         }
-        let kept = self.near.len();
-        add_near(&mut self.near, alloc, name)?;
+        let kept = self.unindexed.len();
+        add_unindexed(&mut self.unindexed, alloc, name)?;
         if let Err(error) = self.all.add(alloc, name) {
-            self.near.truncate(kept);
+            self.unindexed.truncate(kept);
             return Err(error);
         }
         Ok(())

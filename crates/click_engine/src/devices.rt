@@ -79,12 +79,12 @@ impl Devices {
         Ok(Devices { names, places })
     }
 
-    /// Returns the index of the device's element if the device is one of the first `NEAR`.
+    /// Returns the index of the device's element if the device is one of the first `MAX_UNINDEXED`.
     #[inline(always)]
-    pub(crate) fn near(&self, device: &[u8]) -> Option<usize>
+    pub(crate) fn find_unindexed(&self, device: &[u8]) -> Option<usize>
         ensures { IfSome result (λ at. element_with self.now device.now ≡ Some at) }
     {
-        let at = self.names.near(device)?;
+        let at = self.names.find_unindexed(device)?;
         Some(self.places[at])
     }
 

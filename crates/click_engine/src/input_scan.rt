@@ -86,7 +86,7 @@ pub(crate) fn ask_until_answer(
             packet,
         );
         move_on(input_scan);
-        if pull_result.held {
+        if pull_result.is_answered {
             return pull_result;
         }
         if pull_result.count > 0 {

@@ -1,6 +1,11 @@
 //! A plant: the elements of a net, and the packet runs through them.
-ghost use Rattle.std.specs.Prelude.{◌≡◌, ℕ, ◌<◌, ◌≤◌, ◌+◌, IfOk, vec_len, length};
+ghost use Rattle.std.specs.Prelude.{◌≡◌, ℕ, ◌<◌, ◌≤◌, ◌+◌, IfOk, All, vec_len, length};
+ghost use Rattle.click_engine.specs.Devices.{devices_from};
 ghost use Rattle.click_engine.specs.Plant.{elements_from};
+ghost use Rattle.click_engine.specs.Tasks.{AreTasks};
+ghost use Rattle.click_engine.specs.declared.devices.PacketDirection.TheVariants.{In, Out};
+ghost use Rattle.click_engine.specs.kept.Tables.{FindsFirst};
+ghost use Rattle.click_engine.specs.kept.Tasks.{places_of, IsTaskIn};
 
 use crate::adjacency::Adjacency;
 use crate::devices::{Devices, PacketDirection};
@@ -9,7 +14,7 @@ use crate::run_state::{Element, RunMemory};
 use crate::runs::{pull_packet, pull_task, push_answer, push_packet, take_one};
 use crate::tasks::{Task, TaskKind, tasks_of};
 use crate::transfer_stack::TransferStack;
-use crate::transfers::queues_ahead;
+use crate::transfers::leads_to_queue;
 use click_base::Class;
 use click_classes::{Side, State};
 use click_packet::Packet;
@@ -19,7 +24,7 @@ use std::marker::Model;
 use std::mem;
 
 /// The maximum number of crossings of one packet run.
-pub const CROSSINGS: usize = 1_024;
+pub const MAX_CROSSINGS: usize = 1_024;
 
 /// The runtime form of a net: its elements, their connections and devices, and a reserved stack.
 #[derive(Drop)]
@@ -34,13 +39,13 @@ pub struct Plant {
     /// For each element, whether its output 0 is connected to a Queue.
     ///
     /// perf: a hint; it never changes the result.
-    queues_ahead: Vec<bool>,
+    leads_to_queue: Vec<bool>,
 }
 
 impl Model for Plant {
     ghost use Rattle.std.specs.Prelude.{◌≡◌, ℕ, ◌+◌, [], length, All};
     ghost use Rattle.click_engine.specs.Plant.{Plant as Seen};
-    ghost use Rattle.click_engine.specs.declared.plant.TheConstants.{CROSSINGS};
+    ghost use Rattle.click_engine.specs.declared.plant.TheConstants.{MAX_CROSSINGS};
     ghost use Rattle.click_engine.specs.kept.Tables.{FindsFirst};
     ghost use Rattle.click_engine.specs.kept.Tasks.{places_of, IsTaskIn};
 
@@ -55,8 +60,39 @@ impl Model for Plant {
       overruns = p.run_memory.overruns;
     } };
 
-    ghost invariant = { λ p. (p.transfer_stack.frames ≡ []) × (p.transfer_stack.room ≡ CROSSINGS + 1) × FindsFirst p.names p.adjacency.names
+    ghost invariant = { λ p. (p.transfer_stack.frames ≡ []) × (p.transfer_stack.room ≡ MAX_CROSSINGS + 1) × FindsFirst p.names p.adjacency.names
         × All (IsTaskIn p.adjacency.shapes) p.tasks.items };
+}
+
+/// What a plant looks up: the tasks, the names and the devices of its elements.
+#[derive(Drop)]
+struct Lookups {
+    tasks: Vec<Task>,
+    names: ElementNames,
+    sources: Devices,
+    sinks: Devices,
+}
+
+/// Collects the tasks, names and devices of a net whose elements begin with these states.
+///
+/// proof: a function of its own, so that `Plant::new` has fewer values to drop at each failure.
+fn lookups_of(alloc: Global, net: &Net, states: &[State]) -> Result<Lookups, AllocError>
+    ensures tasks { IfOk result (λ t. AreTasks net.now 0 net.now.shapes (places_of t.tasks.items)) }
+    ensures classes { IfOk result (λ t. All (IsTaskIn net.now.shapes) t.tasks.items) }
+    ensures names { IfOk result (λ t. FindsFirst t.names net.now.names) }
+    ensures sources { IfOk result (λ t. t.sources ≡ devices_from In 0 states.now) }
+    ensures sinks { IfOk result (λ t. t.sinks ≡ devices_from Out 0 states.now) }
+{
+    let tasks = tasks_of(alloc, net)?;
+    let names = ElementNames::of(alloc, net)?;
+    let sources = Devices::of(alloc, PacketDirection::In, states)?;
+    let sinks = Devices::of(alloc, PacketDirection::Out, states)?;
+    Ok(Lookups {
+        tasks,
+        names,
+        sources,
+        sinks,
+    })
 }
 
 /// Returns the elements of the net with these states.
@@ -97,14 +133,17 @@ impl Plant {
         requires { vec_len states ≡ length net.shapes }
         ensures { IfOk result (λ p. IsStarted net states.items p) }
     {
-        let transfer_stack = TransferStack::with_room(alloc, CROSSINGS + 1)?;
-        let tasks = tasks_of(alloc, &net)?;
-        let sources = Devices::of(alloc, PacketDirection::In, states.as_slice())?;
-        let sinks = Devices::of(alloc, PacketDirection::Out, states.as_slice())?;
+        let lookups = lookups_of(alloc, &net, states.as_slice())?;
         let elements = elements_of(alloc, &net, states)?;
-        let names = ElementNames::of(alloc, &net)?;
         let adjacency = Adjacency::new(alloc, net)?;
-        let queues_ahead = queues_ahead(alloc, &adjacency, elements.as_slice())?;
+        let leads_to_queue = leads_to_queue(alloc, &adjacency, elements.as_slice())?;
+        let transfer_stack = TransferStack::with_room(alloc, MAX_CROSSINGS + 1)?;
+        let Lookups {
+            tasks,
+            names,
+            sources,
+            sinks,
+        } = lookups;
         let run_memory = RunMemory {
             elements,
             left: 0,
@@ -118,7 +157,7 @@ impl Plant {
             sinks,
             run_memory,
             transfer_stack,
-            queues_ahead,
+            leads_to_queue,
         })
     }
 
@@ -178,7 +217,7 @@ impl Plant {
         ensures plant { self.new ≡ arrive self.old device.now packet.now }
         ensures entered { IsTrue result ↔ IsSome (source_of self.old device.now) }
     {
-        let Some(at) = self.sources.near(device) else {
+        let Some(at) = self.sources.find_unindexed(device) else {
             return self.enter_far(device, packet);
         };
         self.enter_at(at, packet);
@@ -208,14 +247,14 @@ impl Plant {
     fn enter_at(&mut self, at: usize, packet: &Packet)
         ensures { self.new ≡ emitted self.old at packet.now }
     {
-        self.run_memory.left = CROSSINGS;
+        self.run_memory.left = MAX_CROSSINGS;
         push_packet(
             &self.adjacency,
             &mut self.run_memory,
             &mut self.transfer_stack,
             at,
             packet,
-            self.queues_ahead.get(at) == Some(&true),
+            self.leads_to_queue.get(at) == Some(&true),
         );
     }
 
@@ -226,7 +265,7 @@ impl Plant {
         ensures packet { result ≡ transmitted self.old device.now }
     {
         let at = self.sinks.element(device)?;
-        self.run_memory.left = CROSSINGS;
+        self.run_memory.left = MAX_CROSSINGS;
         let _answered = pull_packet(
             &self.adjacency,
             &mut self.run_memory,
@@ -245,7 +284,7 @@ impl Plant {
         ensures packet { MatchOption (transmitted self.old device.now) (result ≡ None) (λ p. (r : R) × (result ≡ Some r) × FnOnceReturnsAt F.FnOnce f p r) }
     {
         let at = self.sinks.element(device)?;
-        self.run_memory.left = CROSSINGS;
+        self.run_memory.left = MAX_CROSSINGS;
         let _answered = pull_packet(
             &self.adjacency,
             &mut self.run_memory,
@@ -281,14 +320,14 @@ impl Plant {
         ensures plant { self.new ≡ (ran self.old task.at).plant }
         ensures packets { result ≡ (ran self.old task.at).packets }
     {
-        self.run_memory.left = CROSSINGS;
+        self.run_memory.left = MAX_CROSSINGS;
         if !take_one(
             &self.adjacency,
             &mut self.run_memory,
             &mut self.transfer_stack,
             task,
         ) {
-            return self.run_apart(task);
+            return self.run_outlined(task);
         }
         push_answer(
             &self.adjacency,
@@ -305,7 +344,7 @@ impl Plant {
     /// It is an InfiniteSource with nothing to emit or with a burst other than one, a Discard, or
     /// an Unqueue that got no packet.
     #[inline(never)]
-    fn run_apart(&mut self, task: Task) -> u64
+    fn run_outlined(&mut self, task: Task) -> u64
         ensures plant { self.new ≡ (task_apart (class_of_task task.kind) self.old task.at).plant }
         ensures packets { result ≡ (task_apart (class_of_task task.kind) self.old task.at).packets }
     {
@@ -337,7 +376,7 @@ impl Plant {
         ensures { MatchOption (emission (state_at self.old at)) ((result ≡ false) × (self.new ≡ self.old))
             (λ e. (result ≡ true) × (self.new ≡ sourced self.old at e)) }
     {
-        self.run_memory.left = CROSSINGS;
+        self.run_memory.left = MAX_CROSSINGS;
         if !self.transfer_stack.take_emission(&mut self.run_memory, at) {
             return false;
         }
@@ -356,7 +395,7 @@ impl Plant {
         ensures packets { result ≡ (discarded self.old at).packets }
         ensures few { result ≤ 1 }
     {
-        self.run_memory.left = CROSSINGS;
+        self.run_memory.left = MAX_CROSSINGS;
         let answered = pull_task(
             &self.adjacency,
             &mut self.run_memory,

@@ -3,7 +3,7 @@ ghost use Rattle.std.specs.Prelude.{◌≡◌, ℕ, ◌<◌, ◌≤◌, length, 
 ghost use Rattle.click_engine.specs.kept.Transfers.{ActsIn};
 ghost use Rattle.click_classes.specs.Acts.{act, burst_of, tries, stored, gives};
 
-use crate::transfers::{HELD, PullResult};
+use crate::transfers::{ANSWERED, PullResult};
 use click_base::Class;
 use click_classes::{PortRange, PullOutcome, State};
 use click_packet::Packet;
@@ -117,11 +117,11 @@ impl RunMemory {
         if far.element < self.elements.len() {
             let element = &mut self.elements[far.element];
             if element.state.take_stored(packet) {
-                return HELD;
+                return ANSWERED;
             }
             let tries = element.state.tries(element.inputs, far.port);
             PullResult {
-                held: false,
+                is_answered: false,
                 at: far.element,
                 inputs: element.inputs,
                 count: tries.count,
@@ -129,7 +129,7 @@ impl RunMemory {
             }
         } else {
             PullResult {
-                held: false,
+                is_answered: false,
                 at: far.element,
                 inputs: 0,
                 count: 0,

@@ -161,14 +161,14 @@ impl TransferStack {
     /// Pushes the packet in the answer slot at output 0 of element `at`. Follows the push while
     /// exactly one output gets it. Returns whether a frame may be left; if not, it is complete.
     ///
-    /// perf: if `apart` is true, the push is an out-of-line call.
+    /// perf: if `outlined` is true, the push is an out-of-line call.
     #[inline(always)]
     pub(crate) fn push_answer(
         &mut self,
         adjacency: &Adjacency,
         run_memory: &mut RunMemory,
         at: usize,
-        apart: bool,
+        outlined: bool,
     ) -> bool
         requires done { self.old.frames ≡ [] }
         requires room { run_memory.old.left < self.old.room }
@@ -183,7 +183,7 @@ impl TransferStack {
             run_memory,
             push_frame,
             adjacency.target(at, 0),
-            apart,
+            outlined,
         );
         if several {
             self.sending = 1;
@@ -194,7 +194,7 @@ impl TransferStack {
     /// Pulls at input 0 of element `at`, and asks the inputs that this leads to. Returns whether
     /// the pull was answered, if it is complete; `None` if frames may be left.
     ///
-    /// perf: most pulls end at a queue at once. `apart` makes the asking of inputs an out-of-line
+    /// perf: most pulls end at a queue at once. `outlined` makes the asking of inputs an out-of-line
     /// call, for callers that usually find a queue.
     #[inline(always)]
     pub(crate) fn start_pull(
@@ -202,7 +202,7 @@ impl TransferStack {
         adjacency: &Adjacency,
         run_memory: &mut RunMemory,
         at: usize,
-        apart: bool,
+        outlined: bool,
     ) -> Option<bool>
         requires done { self.old.frames ≡ [] }
         requires room { run_memory.old.left < self.old.room }
@@ -213,8 +213,8 @@ impl TransferStack {
         let push_frame = &mut self.push_frames[0];
         let pull_result = pull_first(adjacency, run_memory, at, &mut push_frame.packet);
         if pull_result.count == 0 {
-            self.answered = pull_result.held;
-            return Some(pull_result.held);
+            self.answered = pull_result.is_answered;
+            return Some(pull_result.is_answered);
         }
         let PullResult {
             at,
@@ -223,8 +223,8 @@ impl TransferStack {
             first,
             ..
         } = pull_result;
-        if apart {
-            self.ask_inputs_apart(adjacency, run_memory, at, inputs, count, first);
+        if outlined {
+            self.ask_inputs_outlined(adjacency, run_memory, at, inputs, count, first);
             return None;
         }
         if self.ask_inputs(adjacency, run_memory, at, inputs, count, first) {
@@ -269,7 +269,7 @@ impl TransferStack {
             &mut input_scan,
             &mut push_frame.packet,
         );
-        if further.held {
+        if further.is_answered {
             let given = run_memory.gives(
                 input_scan.at,
                 input_scan.back as u16,
@@ -296,7 +296,7 @@ impl TransferStack {
 
     /// Does what `ask_inputs` does, out of line.
     #[inline(never)]
-    fn ask_inputs_apart(
+    fn ask_inputs_outlined(
         &mut self,
         adjacency: &Adjacency,
         run_memory: &mut RunMemory,
@@ -507,7 +507,7 @@ impl TransferStack {
         let top = self.asks.len() - 1;
         let push_frame = &mut self.push_frames[0];
         let pull_result = pull_over(adjacency, run_memory, at, input, &mut push_frame.packet);
-        self.answered = pull_result.held;
+        self.answered = pull_result.is_answered;
         if pull_result.count > 0 {
             self.asks[top] = tries(pull_result);
         } else {
@@ -569,7 +569,7 @@ impl TransferStack {
             input_scan.input,
             &mut push_frame.packet,
         );
-        self.answered = pull_result.held;
+        self.answered = pull_result.is_answered;
         move_on(&mut input_scan);
         self.asks[top] = waiting_frame(input_scan);
         if pull_result.count > 0 {

@@ -7,7 +7,7 @@ ghost use Rattle.click_engine.specs.Run.{push};
 ghost use Rattle.click_engine.specs.RunState.{Wiring};
 ghost use Rattle.click_engine.specs.Adjacency.{run_state_of, wiring_of};
 ghost use Rattle.click_engine.specs.kept.Transfers.{run_state_with, run_state_after, Along, Pushed, Reached};
-ghost use Rattle.click_engine.specs.kept.Tables.{far_of, AreFirstApart};
+ghost use Rattle.click_engine.specs.kept.Tables.{far_of, AreFirstTargets};
 
 use crate::adjacency::Adjacency;
 use crate::run_state::{ConnectionEnd, Element, RunMemory, act_at};
@@ -20,7 +20,7 @@ use std::alloc::{AllocError, Global};
 #[derive(Clone, Copy)]
 pub struct PullResult {
     /// Whether the pull is answered.
-    pub held: bool,
+    pub is_answered: bool,
     /// The element whose inputs are to be asked, and the number of its inputs.
     pub at: usize,
     pub inputs: u16,
@@ -30,8 +30,8 @@ pub struct PullResult {
 }
 
 /// The pull is answered.
-pub(crate) const HELD: PullResult = PullResult {
-    held: true,
+pub(crate) const ANSWERED: PullResult = PullResult {
+    is_answered: true,
     at: 0,
     inputs: 0,
     count: 0,
@@ -40,7 +40,7 @@ pub(crate) const HELD: PullResult = PullResult {
 
 /// There is no answer, and no input is left to ask.
 pub(crate) const NO_ANSWER: PullResult = PullResult {
-    held: false,
+    is_answered: false,
     at: 0,
     inputs: 0,
     count: 0,
@@ -87,14 +87,14 @@ pub(crate) fn push_over(
 ///
 /// perf: for output 0 it is in `places` and `ports`, the table of first outputs.
 #[inline(always)]
-fn far_from(
+fn target_of(
     adjacency: &Adjacency,
     places: &[usize],
     ports: &[u16],
     at: usize,
     output: u16,
 ) -> ConnectionEnd
-    requires ahead { AreFirstApart places.now ports.now (wiring_of adjacency.now).target }
+    requires first_targets { AreFirstTargets places.now ports.now (wiring_of adjacency.now).target }
     requires place { at < length places.now }
     requires port { at < length ports.now }
     ensures { result ≡ far_of ((wiring_of adjacency.now).target at output) }
@@ -131,7 +131,7 @@ fn push_on(
     ensures ends { (push_frame.new.count ≡ 0) ⊎ (1 < push_frame.new.count) }
     ensures lost { result ≡ false → push_frame.new.count ≡ 0 }
 {
-    let (places, ports) = adjacency.ahead();
+    let (places, ports) = adjacency.first_targets();
     let mut far = first;
     while *left > 0 {
         let outputs = act_at(elements, far.element, far.port, &mut push_frame.packet);
@@ -146,7 +146,7 @@ fn push_on(
             push_frame.count = outputs.count as usize;
             return true;
         }
-        far = far_from(adjacency, places, ports, far.element, outputs.first);
+        far = target_of(adjacency, places, ports, far.element, outputs.first);
         *left -= 1;
     }
     push_frame.count = 0;
@@ -207,7 +207,7 @@ fn push_fast(
 ///
 /// perf: the loop keeps its values in registers, whatever its caller keeps there.
 #[inline(never)]
-fn push_fast_apart(
+fn push_fast_outlined(
     adjacency: &Adjacency,
     run_memory: &mut RunMemory,
     push_frame: &mut PushFrame,
@@ -225,14 +225,14 @@ fn push_fast_apart(
 /// Pushes the packet of `push_frame` into the input `first`, and on while exactly one output gets
 /// it. Returns whether several outputs get it next.
 ///
-/// perf: `apart` makes the loop an out-of-line call, for callers under register pressure.
+/// perf: `outlined` makes the loop an out-of-line call, for callers under register pressure.
 #[inline(always)]
 pub(crate) fn push_slot(
     adjacency: &Adjacency,
     run_memory: &mut RunMemory,
     push_frame: &mut PushFrame,
     first: ConnectionEnd,
-    apart: bool,
+    outlined: bool,
 ) -> bool
     ensures along { (at output : ℕ) → first ≡ far_of ((wiring_of adjacency.now).target at output) → Along (wiring_of adjacency.now) (run_state_of run_memory.old) (run_state_of run_memory.new)
         at output 1 push_frame.old.packet push_frame.new.at push_frame.new.first push_frame.new.count push_frame.new.packet }
@@ -242,8 +242,8 @@ pub(crate) fn push_slot(
     if adjacency.len() < run_memory.elements.len() {
         return push_slowly(adjacency, run_memory, push_frame, first);
     }
-    if apart {
-        return push_fast_apart(adjacency, run_memory, push_frame, first);
+    if outlined {
+        return push_fast_outlined(adjacency, run_memory, push_frame, first);
     }
     push_fast(adjacency, run_memory, push_frame, first)
 }
@@ -332,40 +332,40 @@ pub(crate) fn pull_first(
 ///
 /// perf: only there is `store_at` worth an attempt. This is a hint: it never changes the result of
 /// a push, so it has no contract.
-pub(crate) fn queues_ahead(
+pub(crate) fn leads_to_queue(
     alloc: Global,
     adjacency: &Adjacency,
     elements: &[Element],
 ) -> Result<Vec<bool>, AllocError> {
-    let mut queues_ahead = Vec::with_capacity(alloc, elements.len())?;
+    let mut leads_to_queue = Vec::with_capacity(alloc, elements.len())?;
     for at in 0..elements.len() {
         let far = adjacency.target(at, 0);
-        queues_ahead.push(match elements.get(far.element) {
+        leads_to_queue.push(match elements.get(far.element) {
             Some(element) => element.class == Class::Queue,
             None => false,
         })?;
     }
-    Ok(queues_ahead)
+    Ok(leads_to_queue)
 }
 
 /// Stores a packet that is pushed at output 0 of element `at`, if a Queue is connected there.
 /// Returns false, and changes nothing, if there is no Queue or no crossing is left.
 ///
-/// perf: the packet is copied straight into the queue, not into a slot first. `queue_ahead` is the
-/// hint of `queues_ahead`; if it is false, no attempt is made.
+/// perf: the packet is copied straight into the queue, not into a slot first. `to_queue` is the
+/// hint of `leads_to_queue`; if it is false, no attempt is made.
 #[inline(always)]
 pub(crate) fn store_at(
     adjacency: &Adjacency,
     run_memory: &mut RunMemory,
     at: usize,
     packet: &Packet,
-    queue_ahead: bool,
+    to_queue: bool,
 ) -> bool
     ensures stored { result ≡ true → run_state_of run_memory.new ≡ push (wiring_of adjacency.now) run_memory.old.left (run_state_of run_memory.old) at 0 packet.now }
     ensures other { result ≡ false → run_state_of run_memory.new ≡ run_state_of run_memory.old }
     ensures fewer { run_memory.new.left ≤ run_memory.old.left }
 {
-    if !queue_ahead {
+    if !to_queue {
         return false;
     }
     if run_memory.left == 0 {

@@ -1,7 +1,7 @@
 //! The final checks: repeated flat names, and texts that are no longer one configuration string.
 
 ghost use Rattle.std.specs.Prelude.{◌≡◌, map, true, All, IfOk, MatchOption};
-ghost use Rattle.click_expand.specs.declared.flat.FlatElement.{FlatElement as Flattened};
+ghost use Rattle.click_expand.specs.declared.flat.FlatElement.{FlatElement};
 ghost use Rattle.click_expand.specs.Flat as spec;
 ghost use Rattle.click_expand.specs.Flat.{AreDistinct};
 ghost use Rattle.click_expand.specs.kept.FinalChecks.{IsRepeated, IsBroken};
@@ -13,7 +13,7 @@ use std::alloc::{AllocError, Global};
 
 /// Returns the index of the first element with the name of an earlier one.
 pub fn first_repeated(alloc: Global, elements: &[FlatElement]) -> Result<Option<usize>, AllocError>
-    ensures { IfOk result (λ found. MatchOption found (AreDistinct (map (λ (e : Flattened). e.name) elements.now)) (λ i. IsRepeated elements.now i)) }
+    ensures { IfOk result (λ found. MatchOption found (AreDistinct (map (λ (e : FlatElement). e.name) elements.now)) (λ i. IsRepeated elements.now i)) }
 {
     let mut names = IndexSet::with_capacity(alloc, elements.len())?;
     for (place, element) in elements.iter().enumerate() {
@@ -46,7 +46,7 @@ fn is_whole(closed: &mut Vec<u8>, text: &[u8]) -> Result<bool, AllocError>
 
 /// Returns the index of the first element with a broken text.
 pub fn first_broken(alloc: Global, elements: &[FlatElement]) -> Result<Option<usize>, AllocError>
-    ensures { IfOk result (λ found. MatchOption found (All (λ (e : Flattened). spec.is_whole e.text ≡ true) elements.now) (λ i. IsBroken elements.now i)) }
+    ensures { IfOk result (λ found. MatchOption found (All (λ (e : FlatElement). spec.is_whole e.text ≡ true) elements.now) (λ i. IsBroken elements.now i)) }
 {
     let mut closed = Vec::new(alloc);
     for (place, element) in elements.iter().enumerate() {

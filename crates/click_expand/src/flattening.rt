@@ -2,7 +2,7 @@
 
 ghost use Rattle.std.specs.Prelude.{◌≡◌, ◌≤◌, ℕ, List, map, length, slice_get, Some, IfOk, IfErr};
 ghost use Rattle.click_text.specs.Spelling.{Spells};
-ghost use Rattle.click_expand.specs.declared.flat.Flat.{Flat as FlatForm};
+ghost use Rattle.click_expand.specs.declared.flat.Flat.{Flat};
 ghost use Rattle.click_scopes.specs.Faults.{IsFaultless};
 ghost use Rattle.click_expand.specs.Flat.{IsFlat, IsFlatFault, IsMemoryOr, IsGiven, flat_element};
 ghost use Rattle.click_expand.specs.Instances.{PrimitiveElement as Flattened};
@@ -16,7 +16,7 @@ use crate::fault::{ExpandFault, FaultKind};
 use crate::final_checks::{first_broken, first_repeated};
 use crate::flat::{Flat, FlatElement};
 use crate::flat_writing::push_name;
-use crate::instances::sizes::{MOST_ELEMENTS, MOST_PATHS, size_of};
+use crate::instances::sizes::{MAX_ELEMENTS, MAX_PATHS, size_of};
 use crate::instances::tree::{Instances, instances_of};
 use crate::texts::elements::elements_of;
 use click_base::sequence::Sequence;
@@ -128,7 +128,7 @@ fn sound_flat(alloc: Global, config: &Config, scopes: &Scopes) -> Result<Flat, R
     ensures err { IfErr result (λ why. IsRefused config.now why) }
 {
     let size = size_of(alloc, config, scopes)?;
-    if size.elements > MOST_ELEMENTS || size.paths > MOST_PATHS {
+    if size.elements > MAX_ELEMENTS || size.paths > MAX_PATHS {
         return Err(Refusal::TooMany);
     }
     let instances = instances_of(alloc, config, scopes, size.paths)?;
@@ -206,7 +206,7 @@ fn fault_of(alloc: Global, refused: Refusal) -> ExpandFault
 pub fn flatten(alloc: Global, config: &Config) -> Result<Flat, ExpandFault>
     requires { Spells config.now.text config.now }
     ensures flat { IfOk result (λ flat. IsFlat config.now flat) }
-    ensures only { (flat : FlatForm) → IsFlat config.now flat → IsGiven result flat }
+    ensures only { (flat : Flat) → IsFlat config.now flat → IsGiven result flat }
     ensures err { IfErr result (λ fault. IsMemoryOr fault (IsFlatFault config.now fault)) }
 {
     match flat_of(alloc, config) {

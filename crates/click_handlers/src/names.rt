@@ -8,7 +8,7 @@ ghost use Rattle.click_handlers.specs.Names.{has_read, has_write, reads_of, writ
 use click_base::Class;
 
 /// The classes whose elements have handlers, in the order of a table.
-pub(crate) const HANDLED: [Class; 8] = [
+pub(crate) const CLASSES_WITH_HANDLERS: [Class; 8] = [
     Class::Queue,
     Class::FrontDropQueue,
     Class::Counter,

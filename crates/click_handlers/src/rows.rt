@@ -27,7 +27,7 @@ fn is_same(one: &[u8], other: &[u8]) -> bool
 
 /// A row as a table sees it: the handler that it is of, and the names that a class has in such
 /// rows.
-pub(crate) trait Listed {
+pub(crate) trait HandlerRow {
     ghost use Rattle.std.specs.Prelude.{◌≡◌, ℕ, List, map};
     ghost use Rattle.click_base.specs.declared.class.Class.{Class};
     ghost use Rattle.click_handlers.specs.Names.{HandlerName, is_named};
@@ -37,7 +37,7 @@ pub(crate) trait Listed {
     ghost names: { Class → List (List ℕ) };
 
     /// Returns whether this is the row of the class and the name.
-    fn is_of(&self, class: Class, name: &[u8]) -> bool
+    fn is_handler(&self, class: Class, name: &[u8]) -> bool
         ensures { result ≡ is_named class name.now (handler self.now) };
 
     /// Returns the names of a class, in order.
@@ -82,12 +82,12 @@ impl ReadRow {
     }
 }
 
-impl Listed for ReadRow {
+impl HandlerRow for ReadRow {
     ghost handler = { λ r. of_class r.class r.name.items };
 
     ghost names = { reads_of };
 
-    fn is_of(&self, class: Class, name: &[u8]) -> bool {
+    fn is_handler(&self, class: Class, name: &[u8]) -> bool {
         self.class == class && is_same(self.name.as_slice(), name)
     }
 
@@ -143,12 +143,12 @@ impl WriteRow {
     }
 }
 
-impl Listed for WriteRow {
+impl HandlerRow for WriteRow {
     ghost handler = { λ r. of_class r.class r.name.items };
 
     ghost names = { writes_of };
 
-    fn is_of(&self, class: Class, name: &[u8]) -> bool {
+    fn is_handler(&self, class: Class, name: &[u8]) -> bool {
         self.class == class && is_same(self.name.as_slice(), name)
     }
 

@@ -9,7 +9,7 @@ ghost use Rattle.click_handlers.specs.Reads.{read_value};
 ghost use Rattle.click_handlers.specs.Writes.{write_value};
 
 use crate::fault::HandlerFault;
-use crate::names::{HANDLED, reads_of, writes_of};
+use crate::names::{CLASSES_WITH_HANDLERS, reads_of, writes_of};
 use crate::plain;
 use crate::rows::{ReadRow, WriteRow, add_read, add_write};
 use crate::table::Table;
@@ -115,7 +115,7 @@ pub fn with_rows<R: Threads + Wait + Sync, U: TakesRows + Drop>(
 ) -> Result<U::Out, AllocError> {
     let mut asked = asked;
     let mut reads = Vec::new(alloc);
-    for owner in HANDLED {
+    for owner in CLASSES_WITH_HANDLERS {
         for (place, name) in reads_of(owner).iter().enumerate() {
             let asked = if is_count(owner, place) {
                 asked.take()
@@ -141,7 +141,7 @@ pub fn with_rows<R: Threads + Wait + Sync, U: TakesRows + Drop>(
         }
     }
     let mut writes = Vec::new(alloc);
-    for owner in HANDLED {
+    for owner in CLASSES_WITH_HANDLERS {
         for (place, name) in writes_of(owner).iter().enumerate() {
             let call = Box::new(
                 alloc,

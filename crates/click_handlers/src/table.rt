@@ -5,8 +5,8 @@ ghost use Rattle.std.specs.List.{list_any};
 ghost use Rattle.click_handlers.specs.Names.{HandlerName, of_class, is_named, handled, names_by, read_names, write_names, has_read, has_write};
 
 use crate::fault::TableFault;
-use crate::names::HANDLED;
-use crate::rows::{Listed, ReadRow, WriteRow};
+use crate::names::CLASSES_WITH_HANDLERS;
+use crate::rows::{HandlerRow, ReadRow, WriteRow};
 use click_base::Class;
 
 /// The rows of all handlers, in order.
@@ -19,14 +19,14 @@ pub struct Table {
 }
 
 /// Returns the rows after those of a class's names, if the rows begin with these in order.
-fn behind<'a, R: Listed>(rows: &'a [R], class: Class, names: &[&[u8]]) -> Option<&'a [R]>
+fn behind<'a, R: HandlerRow>(rows: &'a [R], class: Class, names: &[&[u8]]) -> Option<&'a [R]>
     ensures some { IfSome result (λ rest. map R.handler rows.now ≡ map (λ n. of_class class n.now) names.now ++ map R.handler rest.now) }
     ensures none { IfNone result ((more : List HandlerName) → map R.handler rows.now ≡ map (λ n. of_class class n.now) names.now ++ more → ⊥) }
 {
     let mut rest = rows;
     for name in names {
         let (row, others) = rest.split_first()?;
-        if !row.is_of(class, name) {
+        if !row.is_handler(class, name) {
             return None;
         }
         rest = others;
@@ -35,11 +35,11 @@ fn behind<'a, R: Listed>(rows: &'a [R], class: Class, names: &[&[u8]]) -> Option
 }
 
 /// Returns whether the rows are the handlers of the classes, in order.
-fn are_listed<R: Listed>(rows: &[R]) -> bool
+fn are_listed<R: HandlerRow>(rows: &[R]) -> bool
     ensures { IsTrue result ↔ (map R.handler rows.now ≡ names_by R.names handled) }
 {
     let mut rest = rows;
-    for class in HANDLED {
+    for class in CLASSES_WITH_HANDLERS {
         match behind(rest, class, R::names_of(class)) {
             Some(others) => rest = others,
             None => return false,
@@ -49,13 +49,13 @@ fn are_listed<R: Listed>(rows: &[R]) -> bool
 }
 
 /// Returns the row of a class's handler with that name.
-fn row_of<'a, R: Listed>(rows: &'a [R], class: Class, name: &[u8]) -> Option<&'a R>
+fn row_of<'a, R: HandlerRow>(rows: &'a [R], class: Class, name: &[u8]) -> Option<&'a R>
     requires { map R.handler rows.now ≡ names_by R.names handled }
     ensures there { is_some result ≡ list_any (is_named class name.now) (names_by R.names handled) }
     ensures row { IfSome result (λ r. R.handler r.now ≡ of_class class name.now) }
 {
     for row in rows {
-        if row.is_of(class, name) {
+        if row.is_handler(class, name) {
             return Some(row);
         }
     }

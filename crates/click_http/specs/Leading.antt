@@ -7,7 +7,7 @@ use Rattle.http_server.specs.Exchange.{Call, Chain}
 use Rattle.http_server.specs.History.{History, IsServed}
 
 -- the port that was asked for
-pub record PageListenerState : Type 0 where
+pub record HttpListenerState : Type 0 where
   pub port : ℕ
 
 -- the limits of each connection

@@ -2,12 +2,12 @@
 #![tactic(auto)]
 
 mod accept_state;
-mod page_listener;
+mod http_listener;
 mod peer;
 mod phase;
 mod serving;
 mod settings;
 
-pub use page_listener::{PageListener, open_page_listener};
+pub use http_listener::{HttpListener, open_http_listener};
 pub use serving::{Ended, serve_until};
-pub use settings::PLACES;
+pub use settings::MAX_CONNECTIONS;

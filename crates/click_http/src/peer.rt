@@ -16,10 +16,10 @@ use std::net::Shutdown;
 use std::time::Instant;
 
 /// The maximum number of steps of one connection before the next one has its turn.
-const STEPS: u32 = 6;
+const MAX_STEPS: u32 = 6;
 
 /// The number of bytes that are read and dropped at once.
-const SCRATCH: usize = 4096;
+const SCRATCH_BYTES: usize = 4096;
 
 /// The interim response that asks a peer to send the rest of its request.
 const CONTINUE: &[u8] = b"HTTP/1.1 100 Continue\r\n\r\n";
@@ -182,7 +182,7 @@ impl Peer {
 
     /// Reads once, and drops what was read.
     fn drain(&mut self) -> Step {
-        let mut scratch = [0u8; SCRATCH];
+        let mut scratch = [0u8; SCRATCH_BYTES];
         match self.stream.read(&mut scratch) {
             Ok(0) => Step::Over,
             Ok(_) => Step::More,
@@ -215,7 +215,7 @@ impl Peer {
     pub(crate) fn turn<S: Service>(&mut self, service: &mut S, now: Instant) -> bool
         ensures { Leads S.answers service.old service.new }
     {
-        for _ in 0..STEPS {
+        for _ in 0..MAX_STEPS {
             match self.step(service, now) {
                 Step::More => {}
                 Step::Wait => return true,
@@ -253,7 +253,7 @@ impl Peer {
 /// Reads what the peer has sent so far: closing a socket with unread input could lose the response.
 pub(crate) fn refuse(stream: TcpStream) {
     let mut stream = stream;
-    let mut scratch = [0u8; SCRATCH];
+    let mut scratch = [0u8; SCRATCH_BYTES];
     let _ = stream.write(FULL);
     let _ = stream.shutdown(Shutdown::Write);
     let _ = stream.read(&mut scratch);

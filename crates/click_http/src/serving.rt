@@ -4,7 +4,7 @@ ghost use Rattle.std.specs.Prelude.{List};
 ghost use Rattle.http_server.specs.Exchange.{Call, Chain};
 ghost use Rattle.click_http.specs.Leading.{Leads};
 
-use crate::page_listener::PageListener;
+use crate::http_listener::HttpListener;
 use crate::peer::Peer;
 use http_server::Service;
 use std::alloc::Global;
@@ -56,14 +56,14 @@ fn serve_places<S: Service, C: Clock>(
 fn serve_round<S: Service, C: Clock>(
     clock: &C,
     alloc: Global,
-    page_listener: &mut PageListener,
+    http_listener: &mut HttpListener,
     service: &mut S,
 ) -> io::Result<()>
     ensures { Leads S.answers service.old service.new }
 {
-    page_listener.wait()?;
-    serve_places(clock, &mut page_listener.places, service)?;
-    page_listener.accept_connections(alloc, Instant::now(clock)?);
+    http_listener.wait()?;
+    serve_places(clock, &mut http_listener.places, service)?;
+    http_listener.accept_connections(alloc, Instant::now(clock)?);
     Ok(())
 }
 
@@ -79,21 +79,21 @@ pub fn serve_until<S: Service, R: Wait, C: Clock>(
     rt: &R,
     clock: &C,
     alloc: Global,
-    page_listener: PageListener,
+    http_listener: HttpListener,
     service: &mut S,
     stop: &AtomicBool,
 ) -> Ended
     ensures led { (calls : List Call) × Chain S.answers service.old calls service.new }
     ensures leads { Leads S.answers service.old service.new }
 {
-    let mut page_listener = page_listener;
+    let mut http_listener = http_listener;
     for _ in rt.forever() {
         if stop.load(Ordering::SeqCst) {
-            close(page_listener);
+            close(http_listener);
             return Ended::Stopped;
         }
-        if let Err(fault) = serve_round(clock, alloc, &mut page_listener, service) {
-            close(page_listener);
+        if let Err(fault) = serve_round(clock, alloc, &mut http_listener, service) {
+            close(http_listener);
             return Ended::Failed(fault.kind());
         }
     }
@@ -101,9 +101,9 @@ pub fn serve_until<S: Service, R: Wait, C: Clock>(
 }
 
 /// Writes pending output of each connection once, and closes all.
-fn close(page_listener: PageListener) {
-    let mut page_listener = page_listener;
-    for place in page_listener.places.iter_mut() {
+fn close(http_listener: HttpListener) {
+    let mut http_listener = http_listener;
+    for place in http_listener.places.iter_mut() {
         if let Some(peer) = place {
             peer.write_last();
         }

@@ -7,7 +7,7 @@ use http_server::Config;
 use std::time::Duration;
 
 /// The maximum number of connections at the same time. A further one is refused with status 503.
-pub const PLACES: usize = 32;
+pub const MAX_CONNECTIONS: usize = 32;
 
 /// Returns the maximum duration of a sleep, after which the server checks `stop` and the time
 /// limits.

@@ -4,7 +4,7 @@ ghost use Rattle.std.specs.Prelude.{◌≡◌, ◌++◌, ◌∷◌, [], IfOk};
 ghost use Rattle.click_lines.specs.Spelling.{word, joined};
 ghost use Rattle.click_lines.specs.Lines.{call_line};
 
-use crate::escaping::{IN_WORD, push_escaped};
+use crate::escaping::{MIN_WORD_BYTE, push_escaped};
 use crate::packet::{packet_word, packets_word};
 use click_router::Call;
 use std::alloc::{AllocError, Global};
@@ -42,7 +42,7 @@ fn one_word(alloc: Global, call: &[u8], bytes: &[u8]) -> Result<Vec<u8>, AllocEr
 {
     let mut line = Vec::from_slice(alloc, call)?;
     line.push(b' ')?;
-    push_escaped(&mut line, IN_WORD, bytes)?;
+    push_escaped(&mut line, MIN_WORD_BYTE, bytes)?;
     Ok(line)
 }
 
@@ -52,6 +52,6 @@ fn two_words(alloc: Global, call: &[u8], name: &[u8], text: &[u8]) -> Result<Vec
 {
     let mut line = one_word(alloc, call, name)?;
     line.push(b' ')?;
-    push_escaped(&mut line, IN_WORD, text)?;
+    push_escaped(&mut line, MIN_WORD_BYTE, text)?;
     Ok(line)
 }

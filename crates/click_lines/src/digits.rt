@@ -13,11 +13,11 @@ use thiserror::Error;
 pub enum HexFault {
     #[error("out of memory")]
     NoMemory,
-    #[error("a packet has no digits; one of no bytes is written -")]
+    #[error("a packet has no digits; write an empty packet as -")]
     NoDigits,
-    #[error("a packet has an odd number of hex digits")]
+    #[error("a packet has an odd number of hex digits; write two for each byte")]
     OddDigits,
-    #[error("a packet has a byte that is no hex digit")]
+    #[error("a packet has a character that is not a hex digit (0 to 9, a to f, A to F)")]
     NoDigit,
     #[error("a packet has more than 1600 bytes")]
     TooLong,

@@ -7,10 +7,10 @@ ghost use Rattle.click_lines.specs.Reading.{ReadsBytes};
 use click_base::sequence::Sequence;
 use std::alloc::{AllocError, Global};
 
-/// The least byte that is not escaped: `IN_WORD` in a word, `IN_WORDS` in words with blanks.
-pub const IN_WORD: u8 = b'!';
+/// The least byte that is not escaped: `MIN_WORD_BYTE` in a word, `MIN_TEXT_BYTE` in words with blanks.
+pub const MIN_WORD_BYTE: u8 = b'!';
 
-const IN_WORDS: u8 = b' ';
+const MIN_TEXT_BYTE: u8 = b' ';
 
 /// Returns whether the byte is not escaped.
 fn is_plain(least: u8, byte: u8) -> bool
@@ -51,7 +51,7 @@ pub fn push_escaped(line: &mut Vec<u8>, least: u8, bytes: &[u8]) -> Result<(), A
 pub fn push_words(line: &mut Vec<u8>, bytes: &[u8]) -> Result<(), AllocError>
     ensures { OnOk result (line.new.items ≡ line.old.items ++ words bytes.now) }
 {
-    push_escaped(line, IN_WORDS, bytes)
+    push_escaped(line, MIN_TEXT_BYTE, bytes)
 }
 
 /// Returns the bytes of an escaped text. Returns `None` if a backslash is not followed by two hex

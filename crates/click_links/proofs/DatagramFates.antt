@@ -2,8 +2,8 @@
 use Rattle.std.proofs.Common.{◌≡◌, ℕ, ◌+◌, ◌<◌, ◌≤◌, inl, inr, true, false, List, [], ◌∷◌, ◌++◌, length, map, refl, sym, ap, subst, ◌∙◌, append-nil, append_assoc, arith}
 use Rattle.click_packet.specs.Packet.{Packet, longest_packet}
 use Rattle.click_links.specs.declared.datagram.Datagram.{Datagram}
-use Rattle.click_links.specs.declared.datagram.DatagramFate.{DatagramFate}
-use Rattle.click_links.specs.declared.datagram.DatagramFate.TheVariants.{Put, Stranger, TooLong, NoRoom, NoMemory}
+use Rattle.click_links.specs.declared.datagram.DatagramOutcome.{DatagramOutcome}
+use Rattle.click_links.specs.declared.datagram.DatagramOutcome.TheVariants.{Enqueued, ForeignSender, TooLong, FeedFull, NoMemory}
 use Rattle.click_links.specs.declared.dropped.Dropped.{Dropped}
 use Rattle.click_links.specs.Ends.{Offering}
 use Rattle.click_links.specs.Fates.{Heard, heard, put_of, puts, asked_of, asks, counted, of_stranger, of_long, of_full, of_memory, nothing_dropped, AllBelow, IsDue, EachDue, Hears, Receives, Steps, added}
@@ -28,7 +28,7 @@ due_append places put [] ks a b = subst (λ l. EachDue places l ks) (append-nil 
 due_append places put (h ∷ hs) ks (first, rest) b =
     (first, due_append places (put ++ put_of h.fate h.datagram.bytes) hs ks rest (subst (λ l. EachDue places l ks) (sym (append_assoc put (put_of h.fate h.datagram.bytes) (puts hs))) b))
 
-counted_one : (f : DatagramFate → ℕ) (hs : List Heard) (datagram : Datagram) (fate : DatagramFate) → counted f (hs ++ heard datagram fate ∷ []) ≡ counted f hs + f fate
+counted_one : (f : DatagramOutcome → ℕ) (hs : List Heard) (datagram : Datagram) (fate : DatagramOutcome) → counted f (hs ++ heard datagram fate ∷ []) ≡ counted f hs + f fate
 counted_one f [] datagram fate = omega arith
 counted_one f (h ∷ hs) datagram fate = omega (arith, counted_one f hs datagram fate)
 
@@ -43,7 +43,7 @@ hears_then came came2 came3 from mid to hs ks a b = record {
 }
 
 -- One datagram came.
-pub hears_one : (came came2 : List Datagram) (from to : Offering) (datagram : Datagram) (fate : DatagramFate) → came2 ≡ came ++ datagram ∷ [] → to.asked ≡ from.asked ++ asked_of fate datagram.bytes
+pub hears_one : (came came2 : List Datagram) (from to : Offering) (datagram : Datagram) (fate : DatagramOutcome) → came2 ≡ came ++ datagram ∷ [] → to.asked ≡ from.asked ++ asked_of fate datagram.bytes
     → to.feed.put ≡ from.feed.put ++ put_of fate datagram.bytes → IsDue from.feed.places (length from.feed.put) datagram fate → to.feed.places ≡ from.feed.places → to.feed.ring ≡ from.feed.ring
     → Hears came came2 from to (heard datagram fate ∷ [])
 hears_one came came2 from to datagram fate more offered entered due places ring = record {
@@ -74,7 +74,7 @@ receives_none came from = record {
 }
 
 -- One more datagram came.
-pub receives_more : (came came2 came3 : List Datagram) (from mid to : Offering) (d : Dropped) (datagram : Datagram) (fate : DatagramFate) → Receives came came2 from mid d → Hears came2 came3 mid to (heard datagram fate ∷ [])
+pub receives_more : (came came2 came3 : List Datagram) (from mid to : Offering) (d : Dropped) (datagram : Datagram) (fate : DatagramOutcome) → Receives came came2 from mid d → Hears came2 came3 mid to (heard datagram fate ∷ [])
     → Receives came came3 from to (added d fate)
 receives_more came came2 came3 from mid to d datagram fate r h = record {
   heard_here = r.heard_here ++ heard datagram fate ∷ [];
@@ -91,14 +91,14 @@ receives_same came came2 came3 from mid to d r same still =
     subst (λ (o : Offering). Receives came came3 from o d) (sym still) (subst (λ (l : List Datagram). Receives came l from mid d) (sym same) r)
 
 -- A fate adds at most one to each number.
-adds_one : (fate : DatagramFate) → AllBelow (added nothing_dropped fate) 2
-adds_one Put = (omega arith, omega arith, omega arith, omega arith)
-adds_one Stranger = (omega arith, omega arith, omega arith, omega arith)
+adds_one : (fate : DatagramOutcome) → AllBelow (added nothing_dropped fate) 2
+adds_one Enqueued = (omega arith, omega arith, omega arith, omega arith)
+adds_one ForeignSender = (omega arith, omega arith, omega arith, omega arith)
 adds_one TooLong = (omega arith, omega arith, omega arith, omega arith)
-adds_one NoRoom = (omega arith, omega arith, omega arith, omega arith)
+adds_one FeedFull = (omega arith, omega arith, omega arith, omega arith)
 adds_one NoMemory = (omega arith, omega arith, omega arith, omega arith)
 
-pub due_stranger : (places before : ℕ) (datagram : Datagram) → datagram.known ≡ false → IsDue places before datagram Stranger
+pub due_stranger : (places before : ℕ) (datagram : Datagram) → datagram.known ≡ false → IsDue places before datagram ForeignSender
 due_stranger places before datagram strange = record {
   stranger = (λ _. strange, λ _. refl);
   long = (λ e. absurd cc, λ p. let k : datagram.known ≡ true = p.0 in absurd cc);
@@ -112,14 +112,14 @@ due_long places before datagram known long = record {
   room = λ e. absurd cc;
 }
 
-pub due_put : (places before : ℕ) (datagram : Datagram) → datagram.known ≡ true → length datagram.bytes ≤ longest_packet → IsDue places before datagram Put
+pub due_put : (places before : ℕ) (datagram : Datagram) → datagram.known ≡ true → length datagram.bytes ≤ longest_packet → IsDue places before datagram Enqueued
 due_put places before datagram known short = record {
   stranger = (λ e. absurd cc, λ k. absurd cc);
   long = (λ e. absurd cc, λ p. absurd (omega (arith, p.1, short)));
   room = λ e. absurd cc;
 }
 
-pub due_full : (places before : ℕ) (datagram : Datagram) → datagram.known ≡ true → length datagram.bytes ≤ longest_packet → places ≤ before → IsDue places before datagram NoRoom
+pub due_full : (places before : ℕ) (datagram : Datagram) → datagram.known ≡ true → length datagram.bytes ≤ longest_packet → places ≤ before → IsDue places before datagram FeedFull
 due_full places before datagram known short full = record {
   stranger = (λ e. absurd cc, λ k. absurd cc);
   long = (λ e. absurd cc, λ p. absurd (omega (arith, p.1, short)));

@@ -3,9 +3,9 @@ use Rattle.std.proofs.Common.{◌≡◌, ℕ, Bool, List, [], ◌∷◌, ◌++�
 use Rattle.click_packet.specs.Packet.{Packet}
 use Rattle.click_links.specs.Ends.{Attempt, attempt, gone}
 
-pub gone_one : (ts : List Attempt) (device : List ℕ) (packet : Packet) (went : Bool)
-    → gone (ts ++ attempt device packet went ∷ []) ≡ gone ts ++ (if went then (device, packet) ∷ [] else [])
-gone_one [] device packet went = append-nil (if went then (device, packet) ∷ [] else [])
-gone_one (t ∷ ts) device packet went =
-    ap (λ l. (if t.went then (t.device, t.packet) ∷ [] else []) ++ l) (gone_one ts device packet went)
-    ∙ sym (append_assoc (if t.went then (t.device, t.packet) ∷ [] else []) (gone ts) (if went then (device, packet) ∷ [] else []))
+pub gone_one : (ts : List Attempt) (device : List ℕ) (packet : Packet) (sent : Bool)
+    → gone (ts ++ attempt device packet sent ∷ []) ≡ gone ts ++ (if sent then (device, packet) ∷ [] else [])
+gone_one [] device packet sent = append-nil (if sent then (device, packet) ∷ [] else [])
+gone_one (t ∷ ts) device packet sent =
+    ap (λ l. (if t.sent then (t.device, t.packet) ∷ [] else []) ++ l) (gone_one ts device packet sent)
+    ∙ sym (append_assoc (if t.sent then (t.device, t.packet) ∷ [] else []) (gone ts) (if sent then (device, packet) ∷ [] else []))

@@ -9,15 +9,15 @@ use Rattle.click_links.specs.declared.turns.Tally.{Tally}
 use Rattle.click_links.specs.Ends.{Attempt, attempt}
 use Rattle.click_links.specs.Turns.{gave, transmit_call, tallied, tally_after, tally_of, GivesNone, Sends, Breaks, SendsSo, SendsUntil}
 
-tally_one : (n : Tally) (ts : List Attempt) (device : List ℕ) (packet : Packet) (went : Bool) → tally_after n (ts ++ attempt device packet went ∷ []) ≡ tallied (tally_after n ts) went
-tally_one n [] device packet went = refl
-tally_one n (t ∷ ts) device packet went = tally_one (tallied n t.went) ts device packet went
+tally_one : (n : Tally) (ts : List Attempt) (device : List ℕ) (packet : Packet) (sent : Bool) → tally_after n (ts ++ attempt device packet sent ∷ []) ≡ tallied (tally_after n ts) sent
+tally_one n [] device packet sent = refl
+tally_one n (t ∷ ts) device packet sent = tally_one (tallied n t.sent) ts device packet sent
 
 -- Nothing is sent.
 pub sends_none : (device : List ℕ) (calls : List (Call × Reply)) (before : List Attempt) → Sends device calls calls before before []
 sends_none device calls before = record { made = sym (append-nil calls); sent = sym (append-nil before); own = All-nil (λ (t : Attempt). t.device ≡ device) }
 
-pub so_none : (device : List ℕ) (calls : List (Call × Reply)) (before : List Attempt) → SendsSo device calls calls before before 0 (record { went = 0; lost = 0 })
+pub so_none : (device : List ℕ) (calls : List (Call × Reply)) (before : List Attempt) → SendsSo device calls calls before before 0 (record { sent = 0; lost = 0 })
 so_none device calls before = record { tries = []; sends = sends_none device calls before; many = refl; counts = refl }
 
 -- Two consecutive sequences of sending packets are one.
@@ -29,31 +29,31 @@ sends_then device calls calls2 calls3 a b c ts us f g = record {
 }
 
 -- One more packet is sent.
-pub so_more : (device : List ℕ) (calls calls2 calls3 : List (Call × Reply)) (a b c : List Attempt) (n : ℕ) (tally : Tally) (packet : Packet) (went : Bool)
-    → SendsSo device calls calls2 a b n tally → Sends device calls2 calls3 b c (attempt device packet went ∷ []) → SendsSo device calls calls3 a c (n + 1) (tallied tally went)
-so_more device calls calls2 calls3 a b c n tally packet went f g = record {
-  tries = f.tries ++ attempt device packet went ∷ [];
-  sends = sends_then device calls calls2 calls3 a b c f.tries (attempt device packet went ∷ []) f.sends g;
-  many = length-append f.tries (attempt device packet went ∷ []) ∙ ap (λ k. k + 1) f.many;
-  counts = ap (λ k. tallied k went) f.counts ∙ sym (tally_one (record { went = 0; lost = 0 }) f.tries device packet went);
+pub so_more : (device : List ℕ) (calls calls2 calls3 : List (Call × Reply)) (a b c : List Attempt) (n : ℕ) (tally : Tally) (packet : Packet) (sent : Bool)
+    → SendsSo device calls calls2 a b n tally → Sends device calls2 calls3 b c (attempt device packet sent ∷ []) → SendsSo device calls calls3 a c (n + 1) (tallied tally sent)
+so_more device calls calls2 calls3 a b c n tally packet sent f g = record {
+  tries = f.tries ++ attempt device packet sent ∷ [];
+  sends = sends_then device calls calls2 calls3 a b c f.tries (attempt device packet sent ∷ []) f.sends g;
+  many = length-append f.tries (attempt device packet sent ∷ []) ∙ ap (λ k. k + 1) f.many;
+  counts = ap (λ k. tallied k sent) f.counts ∙ sym (tally_one (record { sent = 0; lost = 0 }) f.tries device packet sent);
 }
 
-tallied_small : (tally : Tally) (went : Bool) → ((tallied tally went).went ≤ tally.went + 1) × ((tallied tally went).lost ≤ tally.lost + 1)
+tallied_small : (tally : Tally) (sent : Bool) → ((tallied tally sent).sent ≤ tally.sent + 1) × ((tallied tally sent).lost ≤ tally.lost + 1)
 tallied_small tally true = (omega arith, omega arith)
 tallied_small tally false = (omega arith, omega arith)
 
-went_small : (tally : Tally) (ts : List Attempt) → ((tally_after tally ts).went ≤ tally.went + length ts) × ((tally_after tally ts).lost ≤ tally.lost + length ts)
+went_small : (tally : Tally) (ts : List Attempt) → ((tally_after tally ts).sent ≤ tally.sent + length ts) × ((tally_after tally ts).lost ≤ tally.lost + length ts)
 went_small tally [] = (omega arith, omega arith)
-went_small tally (t ∷ ts) = let h = went_small (tallied tally t.went) ts in let s = tallied_small tally t.went in (omega (arith, h.0, s.0), omega (arith, h.1, s.1))
+went_small tally (t ∷ ts) = let h = went_small (tallied tally t.sent) ts in let s = tallied_small tally t.sent in (omega (arith, h.0, s.0), omega (arith, h.1, s.1))
 
 at_most : (a n m : ℕ) → a ≤ 0 + n → n ≡ m → a ≤ m
 at_most a n m h e = omega (arith, h, e)
 
 -- The numbers of sent and of lost packets are at most the number of attempts.
-pub so_small : (device : List ℕ) (calls calls2 : List (Call × Reply)) (a b : List Attempt) (n : ℕ) (tally : Tally) → SendsSo device calls calls2 a b n tally → (tally.went ≤ n) × (tally.lost ≤ n)
+pub so_small : (device : List ℕ) (calls calls2 : List (Call × Reply)) (a b : List Attempt) (n : ℕ) (tally : Tally) → SendsSo device calls calls2 a b n tally → (tally.sent ≤ n) × (tally.lost ≤ n)
 so_small device calls calls2 a b n tally f =
-    let h = went_small (record { went = 0; lost = 0 }) f.tries in (
-      subst (λ (k : Tally). k.went ≤ n) (sym f.counts) (at_most (tally_of f.tries).went (length f.tries) n h.0 f.many),
+    let h = went_small (record { sent = 0; lost = 0 }) f.tries in (
+      subst (λ (k : Tally). k.sent ≤ n) (sym f.counts) (at_most (tally_of f.tries).sent (length f.tries) n h.0 f.many),
       subst (λ (k : Tally). k.lost ≤ n) (sym f.counts) (at_most (tally_of f.tries).lost (length f.tries) n h.1 f.many),
     )
 

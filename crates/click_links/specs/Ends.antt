@@ -27,11 +27,11 @@ nothing = record { bytes = []; known = false }
 pub record Attempt : Type 0 where
   pub device : List ℕ
   pub packet : Packet
-  pub went : Bool
+  pub sent : Bool
 
 -- The attempt for this device and packet, with this result.
 abbrev pub attempt : List ℕ → Packet → Bool → Attempt
-attempt device packet went = record { device = device; packet = packet; went = went }
+attempt device packet sent = record { device = device; packet = packet; sent = sent }
 
 -- The line of a link over UDP: its device, the address that its socket was asked for, and its peer,
 -- which its packets are sent to.
@@ -53,7 +53,7 @@ pub record Sending : Type 0 where
 -- The packets that were sent, each with its device.
 abbrev pub gone : List Attempt → List (List ℕ × Packet)
 gone [] = []
-gone (t ∷ ts) = (if t.went then (t.device, t.packet) ∷ [] else []) ++ gone ts
+gone (t ∷ ts) = (if t.sent then (t.device, t.packet) ∷ [] else []) ++ gone ts
 
 -- The only item of a list.
 abbrev pub only : List (List ℕ × Bool) → List ℕ × Bool

@@ -2,18 +2,18 @@
 use Rattle.std.specs.Prelude.{◌≡◌, ◌↔◌, ℕ, ◌<◌, ◌≤◌, ◌+◌, ◌⊎◌, true, false, List, [], ◌∷◌, ◌++◌, length, map}
 use Rattle.click_packet.specs.Packet.{Packet, longest_packet}
 use Rattle.click_links.specs.declared.datagram.Datagram.{Datagram}
-use Rattle.click_links.specs.declared.datagram.DatagramFate.{DatagramFate}
-use Rattle.click_links.specs.declared.datagram.DatagramFate.TheVariants.{Put, Stranger, TooLong, NoRoom, NoMemory}
+use Rattle.click_links.specs.declared.datagram.DatagramOutcome.{DatagramOutcome}
+use Rattle.click_links.specs.declared.datagram.DatagramOutcome.TheVariants.{Enqueued, ForeignSender, TooLong, FeedFull, NoMemory}
 use Rattle.click_links.specs.declared.dropped.Dropped.{Dropped}
 use Rattle.click_links.specs.Ends.{Offer, offer, Offering}
 
 -- A datagram that came, with its fate.
 pub record Heard : Type 0 where
   pub datagram : Datagram
-  pub fate : DatagramFate
+  pub fate : DatagramOutcome
 
 -- This datagram with this fate.
-abbrev pub heard : Datagram → DatagramFate → Heard
+abbrev pub heard : Datagram → DatagramOutcome → Heard
 heard datagram fate = record { datagram = datagram; fate = fate }
 
 -- The packet of a datagram with these bytes.
@@ -21,11 +21,11 @@ abbrev pub packet_of : List ℕ → Packet
 packet_of bytes = record { bytes = bytes; paint = 0; destination = 0 ∷ 0 ∷ 0 ∷ 0 ∷ [] }
 
 -- What is put into the feed for a datagram with this fate.
-abbrev pub put_of : DatagramFate → List ℕ → List Packet
-put_of Put bytes = packet_of bytes ∷ []
-put_of Stranger bytes = []
+abbrev pub put_of : DatagramOutcome → List ℕ → List Packet
+put_of Enqueued bytes = packet_of bytes ∷ []
+put_of ForeignSender bytes = []
 put_of TooLong bytes = []
-put_of NoRoom bytes = []
+put_of FeedFull bytes = []
 put_of NoMemory bytes = []
 
 -- The packets that were put for these datagrams, in order.
@@ -34,11 +34,11 @@ puts [] = []
 puts (h ∷ hs) = put_of h.fate h.datagram.bytes ++ puts hs
 
 -- What the feed was offered for a datagram with this fate.
-abbrev pub asked_of : DatagramFate → List ℕ → List Offer
-asked_of Put bytes = offer (packet_of bytes) true ∷ []
-asked_of Stranger bytes = []
+abbrev pub asked_of : DatagramOutcome → List ℕ → List Offer
+asked_of Enqueued bytes = offer (packet_of bytes) true ∷ []
+asked_of ForeignSender bytes = []
 asked_of TooLong bytes = []
-asked_of NoRoom bytes = offer (packet_of bytes) false ∷ []
+asked_of FeedFull bytes = offer (packet_of bytes) false ∷ []
 asked_of NoMemory bytes = []
 
 -- What the feed was offered for these datagrams, in order.
@@ -47,40 +47,40 @@ asks [] = []
 asks (h ∷ hs) = asked_of h.fate h.datagram.bytes ++ asks hs
 
 -- The sum of a number over the fates of these datagrams.
-abbrev pub counted : (DatagramFate → ℕ) → List Heard → ℕ
+abbrev pub counted : (DatagramOutcome → ℕ) → List Heard → ℕ
 counted f [] = 0
 counted f (h ∷ hs) = f h.fate + counted f hs
 
 -- 1 for a datagram that is not from the peer, otherwise 0.
-abbrev pub of_stranger : DatagramFate → ℕ
-of_stranger Put = 0
-of_stranger Stranger = 1
+abbrev pub of_stranger : DatagramOutcome → ℕ
+of_stranger Enqueued = 0
+of_stranger ForeignSender = 1
 of_stranger TooLong = 0
-of_stranger NoRoom = 0
+of_stranger FeedFull = 0
 of_stranger NoMemory = 0
 
 -- 1 for a datagram that is too long, otherwise 0.
-abbrev pub of_long : DatagramFate → ℕ
-of_long Put = 0
-of_long Stranger = 0
+abbrev pub of_long : DatagramOutcome → ℕ
+of_long Enqueued = 0
+of_long ForeignSender = 0
 of_long TooLong = 1
-of_long NoRoom = 0
+of_long FeedFull = 0
 of_long NoMemory = 0
 
 -- 1 for a datagram for which the feed was full, otherwise 0.
-abbrev pub of_full : DatagramFate → ℕ
-of_full Put = 0
-of_full Stranger = 0
+abbrev pub of_full : DatagramOutcome → ℕ
+of_full Enqueued = 0
+of_full ForeignSender = 0
 of_full TooLong = 0
-of_full NoRoom = 1
+of_full FeedFull = 1
 of_full NoMemory = 0
 
 -- 1 for a datagram for whose packet there was no memory, otherwise 0.
-abbrev pub of_memory : DatagramFate → ℕ
-of_memory Put = 0
-of_memory Stranger = 0
+abbrev pub of_memory : DatagramOutcome → ℕ
+of_memory Enqueued = 0
+of_memory ForeignSender = 0
 of_memory TooLong = 0
-of_memory NoRoom = 0
+of_memory FeedFull = 0
 of_memory NoMemory = 1
 
 -- The fate is right for this datagram, if `before` packets were put into a feed with this number of
@@ -88,10 +88,10 @@ of_memory NoMemory = 1
 -- and only if it has more bytes than a packet may have. The feed is full only if at least as many
 -- packets were put as it has places. Only a datagram that is neither a stranger nor too long may be
 -- put, or dropped as out of memory.
-pub record IsDue (places before : ℕ) (datagram : Datagram) (fate : DatagramFate) : Type 0 where
-  pub stranger : (fate ≡ Stranger) ↔ (datagram.known ≡ false)
+pub record IsDue (places before : ℕ) (datagram : Datagram) (fate : DatagramOutcome) : Type 0 where
+  pub stranger : (fate ≡ ForeignSender) ↔ (datagram.known ≡ false)
   pub long : (fate ≡ TooLong) ↔ ((datagram.known ≡ true) × (longest_packet < length datagram.bytes))
-  pub room : fate ≡ NoRoom → places ≤ before
+  pub room : fate ≡ FeedFull → places ≤ before
 
 -- Each of these fates is right, if these packets were put before.
 abbrev pub EachDue : ℕ → List Packet → List Heard → Type 0
@@ -127,10 +127,10 @@ abbrev pub AllBelow : Dropped → ℕ → Type 0
 AllBelow d n = (d.strangers < n) × (d.too_long < n) × (d.no_room < n) × (d.no_memory < n)
 
 -- These numbers after one more datagram with this fate.
-abbrev pub added : Dropped → DatagramFate → Dropped
+abbrev pub added : Dropped → DatagramOutcome → Dropped
 added d f = record { strangers = d.strangers + of_stranger f; too_long = d.too_long + of_long f; no_room = d.no_room + of_full f; no_memory = d.no_memory + of_memory f }
 
 -- No further datagram came, or one that is counted.
 abbrev pub Steps : List Datagram → List Datagram → Offering → Offering → Dropped → Dropped → Type 0
 Steps came came2 from to d d2 =
-    ((came2 ≡ came) × (to ≡ from) × (d2 ≡ d)) ⊎ ((datagram : Datagram) × (fate : DatagramFate) × Hears came came2 from to (heard datagram fate ∷ []) × (d2 ≡ added d fate))
+    ((came2 ≡ came) × (to ≡ from) × (d2 ≡ d)) ⊎ ((datagram : Datagram) × (fate : DatagramOutcome) × Hears came came2 from to (heard datagram fate ∷ []) × (d2 ≡ added d fate))

@@ -47,17 +47,17 @@ AreOf device tries = All (λ t. t.device ≡ device) tries
 
 -- These numbers after one more attempt.
 abbrev pub tallied : Tally → Bool → Tally
-tallied n true = record { went = n.went + 1; lost = n.lost }
-tallied n false = record { went = n.went; lost = n.lost + 1 }
+tallied n true = record { sent = n.sent + 1; lost = n.lost }
+tallied n false = record { sent = n.sent; lost = n.lost + 1 }
 
 -- These numbers after these attempts.
 abbrev pub tally_after : Tally → List Attempt → Tally
 tally_after n [] = n
-tally_after n (t ∷ ts) = tally_after (tallied n t.went) ts
+tally_after n (t ∷ ts) = tally_after (tallied n t.sent) ts
 
 -- The numbers of packets that were sent and lost in these attempts.
 abbrev pub tally_of : List Attempt → Tally
-tally_of ts = tally_after (record { went = 0; lost = 0 }) ts
+tally_of ts = tally_after (record { sent = 0; lost = 0 }) ts
 
 -- The seat's calls grew by Transmits of the device, each of which returned a packet. Sending was
 -- attempted for exactly these packets, in this order.
@@ -123,4 +123,4 @@ IsBroken device feeds calls calls2 before after =
 
 -- The device turn found no work: no packet entered, and none was sent or lost.
 abbrev pub IsIdleTurn : Turn → Type 0
-IsIdleTurn turn = (turn.entered ≡ 0) × (turn.tally.went ≡ 0) × (turn.tally.lost ≡ 0)
+IsIdleTurn turn = (turn.entered ≡ 0) × (turn.tally.sent ≡ 0) × (turn.tally.lost ≡ 0)

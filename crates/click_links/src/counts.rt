@@ -1,6 +1,6 @@
 //! The counts of a link, which an operator reads while it runs.
 
-use crate::datagram::DatagramFate;
+use crate::datagram::DatagramOutcome;
 use std::sync::atomic::{AtomicU64, Ordering};
 
 /// The counts of a link. Its receiver and the forwarder add to them, and any thread may read them.
@@ -76,14 +76,14 @@ impl Counts {
     }
 
     /// Counts a datagram with this fate.
-    pub(crate) fn came(&self, fate: DatagramFate) {
+    pub(crate) fn came(&self, fate: DatagramOutcome) {
         one_more(&self.received);
         match fate {
-            DatagramFate::Put => {}
-            DatagramFate::Stranger => one_more(&self.strangers),
-            DatagramFate::TooLong => one_more(&self.too_long),
-            DatagramFate::NoRoom => one_more(&self.no_room),
-            DatagramFate::NoMemory => one_more(&self.no_memory),
+            DatagramOutcome::Enqueued => {}
+            DatagramOutcome::ForeignSender => one_more(&self.strangers),
+            DatagramOutcome::TooLong => one_more(&self.too_long),
+            DatagramOutcome::FeedFull => one_more(&self.no_room),
+            DatagramOutcome::NoMemory => one_more(&self.no_memory),
         }
     }
 
@@ -93,8 +93,8 @@ impl Counts {
     }
 
     /// Counts a packet that was sent or lost.
-    pub(crate) fn tried(&self, went: bool) {
-        one_more(if went { &self.sent } else { &self.failed });
+    pub(crate) fn tried(&self, sent: bool) {
+        one_more(if sent { &self.sent } else { &self.failed });
     }
 }
 

@@ -12,15 +12,15 @@ pub struct Datagram {
 
 /// The fate of a datagram that came: put into the feed, or dropped for one of four causes.
 #[derive(Clone, Copy, Debug, PartialEq, Eq)]
-pub enum DatagramFate {
+pub enum DatagramOutcome {
     /// It became a packet of the feed.
-    Put,
+    Enqueued,
     /// It is not from the peer.
-    Stranger,
+    ForeignSender,
     /// It has more bytes than a packet may have.
     TooLong,
     /// The feed was full.
-    NoRoom,
+    FeedFull,
     /// There was no memory for its packet.
     NoMemory,
 }

@@ -3,7 +3,7 @@
 ghost use Rattle.std.specs.Prelude.{◌≡◌, ◌-◌, ◌^◌};
 ghost use Rattle.click_links.specs.Fates.{added, AllBelow, nothing_dropped};
 
-use crate::datagram::DatagramFate;
+use crate::datagram::DatagramOutcome;
 
 /// The numbers of dropped datagrams, by cause.
 #[derive(Clone, Copy, Debug, PartialEq, Eq)]
@@ -32,16 +32,16 @@ impl Dropped {
     }
 
     /// Counts one more datagram with this fate.
-    pub(crate) fn add(&mut self, fate: DatagramFate)
+    pub(crate) fn add(&mut self, fate: DatagramOutcome)
         requires { AllBelow self.old (2 ^ 64 - 1) }
         ensures { self.new ≡ added self.old fate }
     {
         match fate {
-            DatagramFate::Put => {}
-            DatagramFate::Stranger => self.strangers += 1,
-            DatagramFate::TooLong => self.too_long += 1,
-            DatagramFate::NoRoom => self.no_room += 1,
-            DatagramFate::NoMemory => self.no_memory += 1,
+            DatagramOutcome::Enqueued => {}
+            DatagramOutcome::ForeignSender => self.strangers += 1,
+            DatagramOutcome::TooLong => self.too_long += 1,
+            DatagramOutcome::FeedFull => self.no_room += 1,
+            DatagramOutcome::NoMemory => self.no_memory += 1,
         }
     }
 }

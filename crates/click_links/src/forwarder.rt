@@ -13,8 +13,8 @@ use std::marker::{Brand, PhantomData};
 pub(crate) trait RunStart {
     ghost use Rattle.std.specs.Prelude.{ℕ, List, Option};
     ghost use Rattle.click_rings.specs.Feeds.{FeedName};
-    ghost use Rattle.click_router.specs.declared.call.Call.{Call as ACall};
-    ghost use Rattle.click_router.specs.declared.call.Reply.{Reply as AReply};
+    ghost use Rattle.click_router.specs.declared.call.Call.{Call};
+    ghost use Rattle.click_router.specs.declared.call.Reply.{Reply};
     ghost use Rattle.click_desk.specs.SeatStates.{DeskName};
     ghost use Rattle.click_links.specs.Ends.{Attempt};
 
@@ -24,11 +24,11 @@ pub(crate) trait RunStart {
 
     ghost feeds: { List FeedName };
 
-    ghost calls: { List (ACall × AReply) };
+    ghost calls: { List (Call × Reply) };
 
     ghost names: { List (List ℕ) };
 
-    ghost tried: { List Attempt };
+    ghost attempts: { List Attempt };
 }
 
 impl RunStart for Brand {
@@ -44,7 +44,7 @@ impl RunStart for Brand {
 
     ghost names = { [] };
 
-    ghost tried = { [] };
+    ghost attempts = { [] };
 }
 
 /// The seat of a run and the end that sends its packets, used by one thread at a time. By its
@@ -55,7 +55,7 @@ pub(crate) struct Forwarder<T, S: Outbound, B: RunStart> {
     pub(crate) sender: S,
     of: PhantomData<B>,
     pub(crate) ghost same: { (Some seat.desk ≡ B.desk) × (seat.number ≡ B.number) × (seat.feeds ≡ B.feeds) },
-    pub(crate) ghost forwards: { HasForwarded B.names B.calls seat.calls B.tried (S.tried sender) },
+    pub(crate) ghost forwards: { HasForwarded B.names B.calls seat.calls B.attempts (S.attempts sender) },
 }
 
 impl<T, S: Outbound, B: RunStart> Forwarder<T, S, B> {
@@ -63,7 +63,7 @@ impl<T, S: Outbound, B: RunStart> Forwarder<T, S, B> {
     #[tactic(auto, using(crate::proofs::ForwarderEquations::known_none))]
     pub(crate) fn new(seat: Seat<T>, sender: S) -> Forwarder<T, S, B>
         requires same { (Some seat.desk ≡ B.desk) × (seat.number ≡ B.number) × (seat.feeds ≡ B.feeds) }
-        requires new { (seat.calls ≡ B.calls) × (S.tried sender ≡ B.tried) }
+        requires new { (seat.calls ≡ B.calls) × (S.attempts sender ≡ B.attempts) }
     {
         Forwarder {
             seat,
@@ -76,7 +76,7 @@ impl<T, S: Outbound, B: RunStart> Forwarder<T, S, B> {
     #[tactic(auto, using(crate::proofs::ForwarderEquations::forwards_of))]
     pub(crate) fn into_parts(self) -> (Seat<T>, S)
         ensures same { (Some result.0.desk ≡ B.desk) × (result.0.number ≡ B.number) × (result.0.feeds ≡ B.feeds) }
-        ensures forwards { Forwards B.names B.calls result.0.calls B.tried (S.tried result.1) }
+        ensures forwards { Forwards B.names B.calls result.0.calls B.attempts (S.attempts result.1) }
     {
         let Forwarder {
             seat,

@@ -16,7 +16,7 @@ pub trait Inbound {
     ghost use Rattle.click_links.specs.declared.datagram.Datagram.{Datagram};
 
     /// The datagrams that came, oldest first.
-    ghost came: { Self → List Datagram };
+    ghost received: { Self → List Datagram };
 
     /// The latest datagram.
     ghost current: { Self → Datagram };
@@ -24,8 +24,8 @@ pub trait Inbound {
     /// Blocks until a datagram comes, or until the link's own timeout is over. Returns whether one
     /// came.
     fn receive(&mut self) -> Result<bool, LinkFailed>
-        ensures ok { IfOk result (λ one. came self.new ≡ came self.old ++ (if one then current self.new ∷ [] else [])) }
-        ensures err { OnErr result (came self.new ≡ came self.old) };
+        ensures ok { IfOk result (λ one. received self.new ≡ received self.old ++ (if one then current self.new ∷ [] else [])) }
+        ensures err { OnErr result (received self.new ≡ received self.old) };
 
     /// Returns the bytes of the latest datagram.
     fn bytes(&self) -> &[u8]
@@ -50,12 +50,12 @@ pub trait Outbound {
 
     /// The packets whose sending over any link was attempted, oldest first. Each has its device and
     /// whether it was sent.
-    ghost tried: { Self → List Attempt };
+    ghost attempts: { Self → List Attempt };
 
     /// Sends a packet over the device's link. Returns whether it was sent.
     ///
     /// A packet that was not sent is lost; later ones may be sent. If no link has the device, no
     /// packet of it is sent.
     fn send(&mut self, device: &Sequence<u8>, packet: &StoredPacket) -> bool
-        ensures { tried self.new ≡ tried self.old ++ attempt device.now packet.now result ∷ [] };
+        ensures { attempts self.new ≡ attempts self.old ++ attempt device.now packet.now result ∷ [] };
 }

@@ -6,8 +6,8 @@ ghost use Rattle.click_links.specs.Ends.{IsNewFeed, link_places};
 ghost use Rattle.click_links.specs.Turns.{names_of};
 
 use crate::device::Device;
-use crate::intake::Intake;
-use crate::run::Receiving;
+use crate::recorded_feed::RecordedFeed;
+use crate::run::Receiver;
 use click_base::sequence::Sequence;
 use click_rings::opening::{FeedFault, feed};
 use click_rings::{Feed, Inlet};
@@ -20,7 +20,7 @@ const PLACES: usize = 1024;
 /// The feed of each has 1,024 places, and the inlet is that of the feed.
 #[derive(Drop)]
 pub struct Links<L> {
-    pub receivers: Vec<Receiving<L>>,
+    pub receivers: Vec<Receiver<L>>,
     pub inlets: Vec<Inlet>,
     ghost fed: { inlets.items ≡ map (λ r. record { device = r.device; ring = r.intake.feed.ring }) receivers.items },
     ghost fresh: { All (λ r. IsNewFeed r.intake) receivers.items },
@@ -60,7 +60,11 @@ impl<L: Drop> Links<L> {
             mut inlets,
         } = self;
         let (feed, inlet) = feed_of(alloc, name)?;
-        let receiver = Receiving::new(Sequence::copy_of(alloc, name)?, Intake::of(feed), link);
+        let receiver = Receiver::new(
+            Sequence::copy_of(alloc, name)?,
+            RecordedFeed::of(feed),
+            link,
+        );
         receivers.push(receiver)?;
         inlets.push(inlet)?;
         Ok(Links { receivers, inlets })

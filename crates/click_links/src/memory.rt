@@ -39,7 +39,7 @@ impl MemoryIn {
 }
 
 impl Inbound for MemoryIn {
-    ghost came = { λ l. take l.next l.all };
+    ghost received = { λ l. take l.next l.all };
 
     ghost current = { λ l. slice_index_or l.all (l.next - 1) nothing };
 
@@ -117,13 +117,13 @@ impl MemoryOut {
 }
 
 impl Outbound for MemoryOut {
-    ghost tried = { λ k. k };
+    ghost attempts = { λ k. k };
 
     fn send(&mut self, device: &Sequence<u8>, packet: &StoredPacket) -> bool {
         let open = has_device(self.devices.as_slice(), device) & (self.all.len() < self.most);
-        let went = keep(self.alloc, open, &mut self.all, device, packet);
-        self.tried.add(device, packet, went);
-        went
+        let sent = keep(self.alloc, open, &mut self.all, device, packet);
+        self.tried.add(device, packet, sent);
+        sent
     }
 }
 

@@ -12,11 +12,11 @@ use crate::counts::Counts;
 use crate::device::Device;
 use crate::dropped::Dropped;
 use crate::forwarder::{Forwarder, RunStart};
-use crate::intake::Intake;
 use crate::link::{Inbound, Outbound};
 use crate::pause::Pause;
-use crate::receiving::{Ended, Received, receive_telling};
-use crate::sharing::{Helper, Shared, SharedSweep, Sweeper};
+use crate::receiver::{Ended, ReceiverReport, receive_with};
+use crate::recorded_feed::RecordedFeed;
+use crate::sharing::{InlineForwarder, Shared, SharedSweep, Sweeper};
 use click_base::sequence::Sequence;
 use click_desk::{Desk, DeskFault, Seat};
 use click_router::Handlers;
@@ -31,28 +31,35 @@ use std::thread::Threads;
 ///
 /// They suffice to empty a feed of 4,096 places twice. Without a maximum, a configuration that
 /// emits packets of its own would keep the forwarder from ending.
-const MOST_LAST: u32 = 256;
+const MAX_FINAL_SWEEPS: u32 = 256;
+
+/// The maximum duration of the forwarder's first sleep, in microseconds.
+const MIN_SLEEP_US: u64 = 200;
+
+/// The maximum duration of a sleep of the forwarder, in microseconds. A receiver wakes it earlier;
+/// other threads that give a device packets do not.
+const MAX_SLEEP_US: u64 = 20_000;
 
 /// A receiver. It has its device, the device's feed, the receiving end of the link, and its outcome
 /// if it has run.
 #[derive(Drop)]
-pub struct Receiving<L> {
+pub struct Receiver<L> {
     pub device: Sequence<u8>,
-    pub intake: Intake,
+    pub intake: RecordedFeed,
     pub link: L,
-    pub received: Received,
+    pub received: ReceiverReport,
 }
 
-impl<L> Receiving<L> {
+impl<L> Receiver<L> {
     /// Returns a receiver that has not run.
-    pub fn new(device: Sequence<u8>, intake: Intake, link: L) -> Receiving<L>
+    pub fn new(device: Sequence<u8>, intake: RecordedFeed, link: L) -> Receiver<L>
         ensures { (result.device ≡ device) × (result.intake ≡ intake) × (result.link ≡ link) }
     {
-        let received = Received {
+        let received = ReceiverReport {
             dropped: Dropped::none(),
             ended: Ended::Stopped,
         };
-        Receiving {
+        Receiver {
             device,
             intake,
             link,
@@ -64,17 +71,17 @@ impl<L> Receiving<L> {
 /// The links of a run. They are its devices, their receivers in the same order, and the end that
 /// sends the packets of all of them.
 #[derive(Drop)]
-pub struct LinkParts<'a, L, S> {
+pub struct LinkSet<'a, L, S> {
     pub devices: &'a [Device],
-    pub receivers: Vec<Receiving<L>>,
+    pub receivers: Vec<Receiver<L>>,
     pub sender: S,
 }
 
 /// The outcome of a run of links.
 #[derive(Drop)]
-pub struct Linked<T, L, S> {
+pub struct LinksOutcome<T, L, S> {
     /// The receivers, in the order in which they were given.
-    pub links: Vec<Receiving<L>>,
+    pub links: Vec<Receiver<L>>,
     pub seat: Seat<T>,
     pub sender: S,
     /// The fault for which the forwarder ended before all was sent, if it did.
@@ -84,28 +91,28 @@ pub struct Linked<T, L, S> {
 /// Runs a receiver until a stop is requested or the link fails.
 fn run_receiver<T: Handlers, L: Inbound, S: Outbound, R: Wait, B: RunStart>(
     sweeper: &Sweeper<'_, '_, T, S, R, B>,
-    receiving: Receiving<L>,
+    receiver: Receiver<L>,
     stop: &AtomicBool,
     counts: &Counts,
-) -> Receiving<L>
-    ensures { (result.device ≡ receiving.device) × Receives (L.came receiving.link) (L.came result.link) receiving.intake result.intake result.received.dropped }
+) -> Receiver<L>
+    ensures { (result.device ≡ receiver.device) × Receives (L.received receiver.link) (L.received result.link) receiver.intake result.intake result.received.dropped }
 {
-    let Receiving {
+    let Receiver {
         device,
         mut intake,
         mut link,
         received: _,
-    } = receiving;
-    let mut helper = Helper::new(sweeper);
-    let received = receive_telling(
+    } = receiver;
+    let mut helper = InlineForwarder::new(sweeper);
+    let received = receive_with(
         sweeper.alloc,
         &mut intake,
         &mut link,
         stop,
         counts,
-        |put, link: &L| helper.help(put, link),
+        |put, link: &L| helper.after_datagram(put, link),
     );
-    Receiving {
+    Receiver {
         device,
         intake,
         link,
@@ -115,7 +122,7 @@ fn run_receiver<T: Handlers, L: Inbound, S: Outbound, R: Wait, B: RunStart>(
 
 /// Runs the receiver of each link. All run in parallel, each in a thread of its own if the system
 /// can create one.
-fn hear_all<
+fn run_receivers<
     T: Handlers + Send + Drop,
     L: Inbound + Send + Drop,
     S: Outbound + Send + Drop,
@@ -123,11 +130,11 @@ fn hear_all<
     B: RunStart + Send + Sync,
 >(
     sweeper: &Sweeper<'_, '_, T, S, R, B>,
-    mut links: Vec<Receiving<L>>,
+    mut links: Vec<Receiver<L>>,
     stop: &AtomicBool,
-) -> Vec<Receiving<L>>
+) -> Vec<Receiver<L>>
     requires { vec_len links ≤ length sweeper.now.devices.now }
-    ensures receives { AllZip (λ old new. (new.device ≡ old.device) × Receives (L.came old.link) (L.came new.link) old.intake new.intake new.received.dropped) links.items result.items }
+    ensures receives { AllZip (λ old new. (new.device ≡ old.device) × Receives (L.received old.link) (L.received new.link) old.intake new.intake new.received.dropped) links.items result.items }
     ensures room { vec_capacity links ≤ vec_capacity result }
 {
     let Some(last) = links.pop() else {
@@ -136,14 +143,14 @@ fn hear_all<
     let counts = &sweeper.devices[links.len()].counts;
     let (heard, mut all) = thread::join(
         sweeper.rt,
-        move || -> Receiving<L>
-            ensures { (result.device ≡ last.device) × Receives (L.came last.link) (L.came result.link) last.intake result.intake result.received.dropped }
+        move || -> Receiver<L>
+            ensures { (result.device ≡ last.device) × Receives (L.received last.link) (L.received result.link) last.intake result.intake result.received.dropped }
         { run_receiver(sweeper, last, stop, counts) },
-        move || -> Vec<Receiving<L>>
+        move || -> Vec<Receiver<L>>
             requires { IsSync R.row × IsSend T.row × IsSend L.row × IsSend S.row × IsSend B.row × (vec_len links ≤ length sweeper.now.devices.now) }
-            ensures { AllZip (λ old new. (new.device ≡ old.device) × Receives (L.came old.link) (L.came new.link) old.intake new.intake new.received.dropped) links.items result.items
+            ensures { AllZip (λ old new. (new.device ≡ old.device) × Receives (L.received old.link) (L.received new.link) old.intake new.intake new.received.dropped) links.items result.items
                 × (vec_capacity links ≤ vec_capacity result) }
-        { hear_all(sweeper, links, stop) },
+        { run_receivers(sweeper, links, stop) },
     );
     all.push_reserved(heard);
     all
@@ -165,7 +172,7 @@ impl AfterSweep {
             None => AfterSweep::Sleep,
             Some(made) => match &made.swept {
                 Err(DeskFault::HistoryFull) => AfterSweep::End,
-                Ok(_) if !made.is_all() && !spent => AfterSweep::Sweep,
+                Ok(_) if !made.is_finished() && !spent => AfterSweep::Sweep,
                 _ if last => AfterSweep::End,
                 _ => AfterSweep::Sleep,
             },
@@ -174,7 +181,7 @@ impl AfterSweep {
 }
 
 /// Sweeps until the run is over and no work is left. Returns the fault for which it ended, if any.
-/// After the run is over it makes at most `MOST_LAST` sweeps.
+/// After the run is over it makes at most `MAX_FINAL_SWEEPS` sweeps.
 ///
 /// If the history is full it ends at once, and stops the receivers. It sleeps after a sweep that
 /// found no work or failed with out of memory, and while a receiver sweeps. A sweep that fails with
@@ -183,8 +190,8 @@ fn run_forwarder<T: Handlers, S: Outbound, R: Wait, B: RunStart>(
     sweeper: &Sweeper<'_, '_, T, S, R, B>,
     stop: &AtomicBool,
 ) -> Option<DeskFault> {
-    let mut pause = Pause::new();
-    let mut left = MOST_LAST;
+    let mut pause = Pause::between(MIN_SLEEP_US, MAX_SLEEP_US);
+    let mut left = MAX_FINAL_SWEEPS;
     for _ in sweeper.rt.forever() {
         // This is read before the sweep, so that the packets that came last still go out.
         let last = sweeper.shared.are_over(stop);
@@ -212,19 +219,19 @@ fn run_beside<
     B: RunStart + Send + Sync,
 >(
     sweeper: &Sweeper<'_, '_, T, S, R, B>,
-    links: Vec<Receiving<L>>,
+    links: Vec<Receiver<L>>,
     stop: &AtomicBool,
-) -> (Vec<Receiving<L>>, Option<DeskFault>)
+) -> (Vec<Receiver<L>>, Option<DeskFault>)
     requires { vec_len links ≤ length sweeper.now.devices.now }
-    ensures { AllZip (λ old new. (new.device ≡ old.device) × Receives (L.came old.link) (L.came new.link) old.intake new.intake new.received.dropped) links.items result.0.items }
+    ensures { AllZip (λ old new. (new.device ≡ old.device) × Receives (L.received old.link) (L.received new.link) old.intake new.intake new.received.dropped) links.items result.0.items }
 {
     thread::join(
         sweeper.rt,
-        move || -> Vec<Receiving<L>>
+        move || -> Vec<Receiver<L>>
             requires { IsSync R.row × IsSend T.row × IsSend L.row × IsSend S.row × IsSend B.row × (vec_len links ≤ length sweeper.now.devices.now) }
-            ensures { AllZip (λ old new. (new.device ≡ old.device) × Receives (L.came old.link) (L.came new.link) old.intake new.intake new.received.dropped) links.items result.items }
+            ensures { AllZip (λ old new. (new.device ≡ old.device) × Receives (L.received old.link) (L.received new.link) old.intake new.intake new.received.dropped) links.items result.items }
         {
-            let links = hear_all(sweeper, links, stop);
+            let links = run_receivers(sweeper, links, stop);
             sweeper.shared.end();
             links
         },
@@ -247,22 +254,22 @@ fn run_as<
     alloc: Global,
     desk: &Desk<T, &R>,
     seat: Seat<T>,
-    link_parts: LinkParts<L, S>,
+    link_set: LinkSet<L, S>,
     stop: &AtomicBool,
-) -> Linked<T, L, S>
-    requires devices { vec_len link_parts.receivers ≤ length link_parts.devices.now }
-    requires at { (Some desk.now ≡ B.desk) × (names_of link_parts.devices.now ≡ B.names) }
+) -> LinksOutcome<T, L, S>
+    requires devices { vec_len link_set.receivers ≤ length link_set.devices.now }
+    requires at { (Some desk.now ≡ B.desk) × (names_of link_set.devices.now ≡ B.names) }
     requires same { (Some seat.desk ≡ B.desk) × (seat.number ≡ B.number) × (seat.feeds ≡ B.feeds) }
-    requires new { (seat.calls ≡ B.calls) × (S.tried link_parts.sender ≡ B.tried) }
-    ensures receives { AllZip (λ old new. (new.device ≡ old.device) × Receives (L.came old.link) (L.came new.link) old.intake new.intake new.received.dropped) link_parts.entry.receivers.items result.links.items }
+    requires new { (seat.calls ≡ B.calls) × (S.attempts link_set.sender ≡ B.attempts) }
+    ensures receives { AllZip (λ old new. (new.device ≡ old.device) × Receives (L.received old.link) (L.received new.link) old.intake new.intake new.received.dropped) link_set.entry.receivers.items result.links.items }
     ensures same { (result.seat.desk ≡ desk.now) × (result.seat.number ≡ B.number) × (result.seat.feeds ≡ B.feeds) }
-    ensures forwards { Forwards B.names B.calls result.seat.calls B.tried (S.tried result.sender) }
+    ensures forwards { Forwards B.names B.calls result.seat.calls B.attempts (S.attempts result.sender) }
 {
-    let LinkParts {
+    let LinkSet {
         devices,
         receivers,
         sender,
-    } = link_parts;
+    } = link_set;
     let shared: Shared<T, S, B> = Shared::new(Forwarder::new(seat, sender));
     let sweeper = Sweeper {
         rt,
@@ -272,8 +279,8 @@ fn run_as<
         shared: &shared,
     };
     let (links, fault) = run_beside(&sweeper, receivers, stop);
-    let (seat, sender) = shared.into_outfit().into_parts();
-    Linked {
+    let (seat, sender) = shared.into_forwarder().into_parts();
+    LinksOutcome {
         links,
         seat,
         sender,
@@ -301,14 +308,14 @@ pub fn run_links<
     alloc: Global,
     desk: &Desk<T, &R>,
     seat: Seat<T>,
-    link_parts: LinkParts<L, S>,
+    link_set: LinkSet<L, S>,
     stop: &AtomicBool,
-) -> Linked<T, L, S>
+) -> LinksOutcome<T, L, S>
     requires desk { seat.desk ≡ desk.now }
-    requires devices { vec_len link_parts.receivers ≤ length link_parts.devices.now }
-    ensures receives { AllZip (λ old new. (new.device ≡ old.device) × Receives (L.came old.link) (L.came new.link) old.intake new.intake new.received.dropped) link_parts.entry.receivers.items result.links.items }
+    requires devices { vec_len link_set.receivers ≤ length link_set.devices.now }
+    ensures receives { AllZip (λ old new. (new.device ≡ old.device) × Receives (L.received old.link) (L.received new.link) old.intake new.intake new.received.dropped) link_set.entry.receivers.items result.links.items }
     ensures same { SameSeat seat result.seat }
-    ensures forwards { Forwards (names_of link_parts.entry.devices.now) seat.calls result.seat.calls (S.tried link_parts.entry.sender) (S.tried result.sender) }
+    ensures forwards { Forwards (names_of link_set.entry.devices.now) seat.calls result.seat.calls (S.attempts link_set.entry.sender) (S.attempts result.sender) }
 {
-    run_as::<_, _, _, _, Brand>(rt, alloc, desk, seat, link_parts, stop)
+    run_as::<_, _, _, _, Brand>(rt, alloc, desk, seat, link_set, stop)
 }

@@ -34,10 +34,10 @@ impl SendAttempts {
     }
 
     /// Appends a packet with its device, and whether it was sent.
-    pub(crate) fn add(&mut self, device: &Sequence<u8>, packet: &StoredPacket, went: bool)
-        ensures { self.new ≡ self.old ++ attempt device.now packet.now went ∷ [] }
+    pub(crate) fn add(&mut self, device: &Sequence<u8>, packet: &StoredPacket, sent: bool)
+        ensures { self.new ≡ self.old ++ attempt device.now packet.now sent ∷ [] }
     {
-        let one = Log::new().and(device, &went);
+        let one = Log::new().and(device, &sent);
         self.log = self.log.and(packet, &one);
     }
 }

@@ -20,10 +20,10 @@ use std::sync::{Mutex, MutexGuard, Wait};
 use std::thread::Parker;
 
 /// The maximum number of sweeps that a receiver makes for one packet, after the first one.
-const MOST_SWEEPS: u32 = 4;
+const MAX_EXTRA_SWEEPS: u32 = 4;
 
 /// The number of isolated packets in a row after which a receiver sweeps itself.
-const CALM: u32 = 8;
+const ISOLATED_BEFORE_INLINE: u32 = 8;
 
 /// The state that the threads of a run share.
 #[derive(Drop)]
@@ -31,7 +31,7 @@ pub(crate) struct Shared<T, S: Outbound, B: RunStart> {
     forwarder: Mutex<Forwarder<T, S, B>>,
     /// Whether a thread found the forwarder locked since it was locked. The holder reads this after
     /// it has unlocked the forwarder, and then sweeps again.
-    missed: AtomicBool,
+    contended: AtomicBool,
     /// Whether the forwarder thread sleeps, or is about to, and was not woken since.
     asleep: AtomicBool,
     /// Whether all receivers have ended.
@@ -44,7 +44,7 @@ impl<T, S: Outbound, B: RunStart> Shared<T, S, B> {
     pub(crate) fn new(forwarder: Forwarder<T, S, B>) -> Shared<T, S, B> {
         Shared {
             forwarder: Mutex::new(forwarder),
-            missed: AtomicBool::new(false),
+            contended: AtomicBool::new(false),
             asleep: AtomicBool::new(false),
             ended: AtomicBool::new(false),
             wake: Parker::new(),
@@ -52,10 +52,10 @@ impl<T, S: Outbound, B: RunStart> Shared<T, S, B> {
     }
 
     /// Returns the forwarder once all threads have ended.
-    pub(crate) fn into_outfit(self) -> Forwarder<T, S, B> {
+    pub(crate) fn into_forwarder(self) -> Forwarder<T, S, B> {
         let Shared {
             forwarder,
-            missed: _,
+            contended: _,
             asleep: _,
             ended: _,
             wake: _,
@@ -82,21 +82,21 @@ impl<T, S: Outbound, B: RunStart> Shared<T, S, B> {
 
     /// Locks the forwarder. Returns `None` if another thread holds it.
     ///
-    /// In that case `missed` is set, and the lock is tried once more. Either the holder has not yet
-    /// read `missed`, and then does the work, or it has unlocked the forwarder before this second
+    /// In that case `contended` is set, and the lock is tried once more. Either the holder has not yet
+    /// read `contended`, and then does the work, or it has unlocked the forwarder before this second
     /// attempt. So no work is left undone.
     fn take(&self) -> Option<MutexGuard<'_, Forwarder<T, S, B>>> {
         if let Some(taken) = self.try_take() {
             return Some(taken);
         }
-        self.missed.store(true, Ordering::SeqCst);
+        self.contended.store(true, Ordering::SeqCst);
         self.try_take()
     }
 
-    /// Locks the forwarder if it is free, and clears `missed`.
+    /// Locks the forwarder if it is free, and clears `contended`.
     fn try_take(&self) -> Option<MutexGuard<'_, Forwarder<T, S, B>>> {
         let taken = self.forwarder.try_lock()?;
-        self.missed.store(false, Ordering::SeqCst);
+        self.contended.store(false, Ordering::SeqCst);
         Some(taken)
     }
 }
@@ -105,14 +105,14 @@ impl<T, S: Outbound, B: RunStart> Shared<T, S, B> {
 #[derive(Drop)]
 pub(crate) struct SharedSweep {
     pub(crate) swept: Result<SweepResult, DeskFault>,
-    pub(crate) missed: bool,
+    pub(crate) contended: bool,
 }
 
 impl SharedSweep {
     /// Returns whether the sweep found no work, and no other thread has work to hand over.
-    pub(crate) fn is_all(&self) -> bool {
+    pub(crate) fn is_finished(&self) -> bool {
         match &self.swept {
-            Ok(swept) => swept.is_idle() && !self.missed,
+            Ok(swept) => swept.is_idle() && !self.contended,
             Err(_) => false,
         }
     }
@@ -132,16 +132,16 @@ pub(crate) struct Sweeper<'a, 'r, T, S: Outbound, R: Wait, B: RunStart> {
 
 impl<'a, 'r, T: Handlers, S: Outbound, R: Wait, B: RunStart> Sweeper<'a, 'r, T, S, R, B> {
     /// Makes one sweep. Returns `None` if another thread holds the forwarder; that thread finds
-    /// `missed` set.
+    /// `contended` set.
     pub(crate) fn sweep(&self) -> Option<SharedSweep> {
         let swept = self.sweep_alone()?;
-        Some(self.made(swept))
+        Some(self.with_contention(swept))
     }
 
-    /// Adds `missed` to the result of a sweep. Called after the forwarder is unlocked.
-    fn made(&self, swept: Result<SweepResult, DeskFault>) -> SharedSweep {
-        let missed = self.shared.missed.load(Ordering::SeqCst);
-        SharedSweep { swept, missed }
+    /// Adds `contended` to the result of a sweep. Called after the forwarder is unlocked.
+    fn with_contention(&self, swept: Result<SweepResult, DeskFault>) -> SharedSweep {
+        let contended = self.shared.contended.load(Ordering::SeqCst);
+        SharedSweep { swept, contended }
     }
 
     /// Makes one sweep under the lock, and unlocks the forwarder.
@@ -171,25 +171,35 @@ impl<'a, 'r, T: Handlers, S: Outbound, R: Wait, B: RunStart> Sweeper<'a, 'r, T, 
 
 /// What a receiver does after each datagram: it wakes the forwarder thread, or sweeps itself.
 #[derive(Drop)]
-pub(crate) struct Helper<'s, 'a, 'r, T, S: Outbound, R: Wait, B: RunStart> {
+pub(crate) struct InlineForwarder<'s, 'a, 'r, T, S: Outbound, R: Wait, B: RunStart> {
     sweeper: &'s Sweeper<'a, 'r, T, S, R, B>,
-    /// The number of isolated packets in a row, up to `CALM`.
+    /// The number of isolated packets in a row, up to `ISOLATED_BEFORE_INLINE`.
     alone: u32,
 }
 
-impl<'s, 'a, 'r, T: Handlers, S: Outbound, R: Wait, B: RunStart> Helper<'s, 'a, 'r, T, S, R, B> {
-    pub(crate) fn new(sweeper: &'s Sweeper<'a, 'r, T, S, R, B>) -> Helper<'s, 'a, 'r, T, S, R, B> {
-        Helper { sweeper, alone: 0 }
+impl<'s, 'a, 'r, T: Handlers, S: Outbound, R: Wait, B: RunStart> InlineForwarder<
+    's,
+    'a,
+    'r,
+    T,
+    S,
+    R,
+    B,
+> {
+    pub(crate) fn new(
+        sweeper: &'s Sweeper<'a, 'r, T, S, R, B>,
+    ) -> InlineForwarder<'s, 'a, 'r, T, S, R, B> {
+        InlineForwarder { sweeper, alone: 0 }
     }
 
     /// Sweeps until no work is left or another thread holds the forwarder. Returns false if work
     /// may be left: a sweep failed, or the maximum number of sweeps was made.
     fn sweep_all(&self) -> bool {
         let mut made = self.sweeper.sweep();
-        for _ in 0..MOST_SWEEPS {
+        for _ in 0..MAX_EXTRA_SWEEPS {
             match &made {
                 Some(last) if last.swept.is_err() => return false,
-                Some(last) if !last.is_all() => {}
+                Some(last) if !last.is_finished() => {}
                 _ => return true,
             }
             made = self.sweeper.sweep();
@@ -200,11 +210,11 @@ impl<'s, 'a, 'r, T: Handlers, S: Outbound, R: Wait, B: RunStart> Helper<'s, 'a, 
     /// Called after each datagram of `link`. `put`: its packet is in the feed.
     ///
     /// A packet is isolated if the forwarder thread sleeps and no other datagram waits at the link.
-    /// After `CALM` isolated packets in a row, the receiver sweeps itself. In all other cases it
+    /// After `ISOLATED_BEFORE_INLINE` isolated packets in a row, the receiver sweeps itself. In all other cases it
     /// wakes the forwarder thread.
     ///
     /// perf: for an isolated packet only one thread has to wake up (bench/RESULTS.md, Links).
-    pub(crate) fn help<L: Inbound>(&mut self, put: bool, link: &L) {
+    pub(crate) fn after_datagram<L: Inbound>(&mut self, put: bool, link: &L) {
         if !put {
             return;
         }
@@ -212,7 +222,7 @@ impl<'s, 'a, 'r, T: Handlers, S: Outbound, R: Wait, B: RunStart> Helper<'s, 'a, 
         if !shared.asleep.load(Ordering::SeqCst) || link.has_more() {
             self.alone = 0;
             shared.wake();
-        } else if self.alone < CALM {
+        } else if self.alone < ISOLATED_BEFORE_INLINE {
             self.alone += 1;
             shared.wake();
         } else if !self.sweep_all() {

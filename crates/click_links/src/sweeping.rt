@@ -5,7 +5,7 @@ ghost use Rattle.std.specs.List.{All};
 ghost use Rattle.click_links.specs.Turns.{SameSeat, IsIdleTurn, names_of};
 ghost use Rattle.click_links.specs.Forwarding.{Forwards};
 ghost use Rattle.click_links.specs.Sweeps.{EachTurn, Rounds, RoundsUntil, IsSweep, count_worked, round};
-ghost use Rattle.click_router.specs.declared.call.Reply.{Reply as AReply};
+ghost use Rattle.click_router.specs.declared.call.Reply.{Reply};
 
 use crate::device::Device;
 use crate::link::Outbound;
@@ -16,7 +16,7 @@ use std::alloc::Global;
 use std::sync::Wait;
 
 /// The maximum number of Rounds of a sweep.
-const MOST_ROUNDS: u64 = 16;
+const MAX_ROUNDS: u64 = 16;
 
 /// The outcome of a sweep.
 #[derive(Drop)]
@@ -49,8 +49,8 @@ fn forward_each<T: Handlers, S: Outbound, R: Wait>(
 ) -> Result<Vec<Turn>, DeskFault>
     requires { seat.old.desk ≡ desk.now }
     ensures same { SameSeat seat.old seat.new }
-    ensures ok { IfOk result (λ turns. EachTurn (names_of devices.now) seat.old.feeds seat.old.calls seat.new.calls (S.tried sender.old) (S.tried sender.new) turns.items) }
-    ensures forwards { Forwards (names_of devices.now) seat.old.calls seat.new.calls (S.tried sender.old) (S.tried sender.new) }
+    ensures ok { IfOk result (λ turns. EachTurn (names_of devices.now) seat.old.feeds seat.old.calls seat.new.calls (S.attempts sender.old) (S.attempts sender.new) turns.items) }
+    ensures forwards { Forwards (names_of devices.now) seat.old.calls seat.new.calls (S.attempts sender.old) (S.attempts sender.new) }
 {
     let Ok(mut turns) = Vec::with_capacity(alloc, devices.len()) else {
         return Err(DeskFault::NoMemory);
@@ -70,7 +70,7 @@ fn round_once<T: Handlers, R: Wait>(
 ) -> Result<bool, DeskFault>
     requires { seat.old.desk ≡ desk.now }
     ensures same { SameSeat seat.old seat.new }
-    ensures ok { IfOk result (λ worked. (reply : AReply) × (seat.new.calls ≡ seat.old.calls ++ round reply ∷ []) × (IsTrue worked ↔ (0 < count_worked reply))) }
+    ensures ok { IfOk result (λ worked. (reply : Reply) × (seat.new.calls ≡ seat.old.calls ++ round reply ∷ []) × (IsTrue worked ↔ (0 < count_worked reply))) }
     ensures err { OnErr result (seat.new.calls ≡ seat.old.calls) }
 {
     Ok(desk.round(rt, seat)? > 0)
@@ -88,14 +88,14 @@ fn round_on<T: Handlers, R: Wait>(
     ensures ok { IfOk result (λ r. RoundsUntil seat.old.calls seat.new.calls r.0 r.1) }
     ensures err { OnErr result ((count : ℕ) × Rounds seat.old.calls seat.new.calls count) }
 {
-    for count in 0..MOST_ROUNDS {
+    for count in 0..MAX_ROUNDS {
         match round_once(rt, desk, seat) {
             Ok(true) => {}
             Ok(false) => return Ok((count, false)),
             Err(fault) => return Err(fault),
         }
     }
-    Ok((MOST_ROUNDS, true))
+    Ok((MAX_ROUNDS, true))
 }
 
 /// Makes one sweep: one turn of each device, in order, and then at most 16 Rounds. The Rounds go on
@@ -113,8 +113,8 @@ pub fn sweep<T: Handlers, S: Outbound, R: Wait>(
 ) -> Result<SweepResult, DeskFault>
     requires { seat.old.desk ≡ desk.now }
     ensures same { SameSeat seat.old seat.new }
-    ensures ok { IfOk result (λ s. IsSweep (names_of devices.now) seat.old.feeds seat.old.calls seat.new.calls (S.tried sender.old) (S.tried sender.new) s.turns.items s.rounds s.more) }
-    ensures forwards { Forwards (names_of devices.now) seat.old.calls seat.new.calls (S.tried sender.old) (S.tried sender.new) }
+    ensures ok { IfOk result (λ s. IsSweep (names_of devices.now) seat.old.feeds seat.old.calls seat.new.calls (S.attempts sender.old) (S.attempts sender.new) s.turns.items s.rounds s.more) }
+    ensures forwards { Forwards (names_of devices.now) seat.old.calls seat.new.calls (S.attempts sender.old) (S.attempts sender.new) }
 {
     let turns = forward_each(rt, alloc, desk, seat, devices, sender)?;
     let (rounds, more) = round_on(rt, desk, seat)?;

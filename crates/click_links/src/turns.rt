@@ -2,7 +2,7 @@
 
 ghost use Rattle.std.specs.Prelude.{◌≡◌, ◌↔◌, ◌<◌, ◌+◌, ◌^◌, ◌++◌, ◌∷◌, [], List, IsTrue, IfOk, IfErr, OnErr, MatchOption};
 ghost use Rattle.click_packet.specs.Packet.{Packet as APacket};
-ghost use Rattle.click_router.specs.declared.call.Reply.{Reply as AReply};
+ghost use Rattle.click_router.specs.declared.call.Reply.{Reply};
 ghost use Rattle.click_router.specs.Polls.{poll, transmit as transmits};
 ghost use Rattle.click_desk.specs.Polls.{MayTake};
 ghost use Rattle.click_links.specs.Ends.{attempt};
@@ -18,27 +18,27 @@ use std::alloc::Global;
 use std::sync::Wait;
 
 /// The maximum number of packets that a device turn takes from the feed.
-const MOST_POLLED: usize = 32;
+const MAX_POLLED: usize = 32;
 
 /// The maximum number of packets that a device turn sends.
-const MOST_SENT: u64 = 256;
+const MAX_SENT: u64 = 256;
 
 /// The numbers of packets whose sending was attempted.
 #[derive(Clone, Copy, Debug, PartialEq, Eq)]
 pub struct Tally {
     /// Packets that were sent.
-    pub went: u64,
+    pub sent: u64,
     /// Packets that were lost.
     pub lost: u64,
 }
 
 impl Tally {
-    fn add(&mut self, went: bool)
-        requires { (self.old.went + 1 < 2 ^ 64) × (self.old.lost + 1 < 2 ^ 64) }
-        ensures { self.new ≡ tallied self.old went }
+    fn add(&mut self, sent: bool)
+        requires { (self.old.sent + 1 < 2 ^ 64) × (self.old.lost + 1 < 2 ^ 64) }
+        ensures { self.new ≡ tallied self.old sent }
     {
-        if went {
-            self.went += 1;
+        if sent {
+            self.sent += 1;
         } else {
             self.lost += 1;
         }
@@ -60,7 +60,7 @@ impl Turn {
     pub fn is_idle(&self) -> bool
         ensures { IsTrue result ↔ IsIdleTurn self.now }
     {
-        self.entered == 0 && self.tally.went == 0 && self.tally.lost == 0
+        self.entered == 0 && self.tally.sent == 0 && self.tally.lost == 0
     }
 }
 
@@ -82,11 +82,11 @@ fn poll_feed<T: Handlers, R: Wait>(
 ) -> Result<u64, DeskFault>
     requires { seat.old.desk ≡ desk.now }
     ensures same { SameSeat seat.old seat.new }
-    ensures ok { IfOk result (λ entered. (taken : List APacket) × (polled : AReply) × MayTake seat.new.feeds device.now.name 32 taken polled
+    ensures ok { IfOk result (λ entered. (taken : List APacket) × (polled : Reply) × MayTake seat.new.feeds device.now.name 32 taken polled
         × (seat.new.calls ≡ seat.old.calls ++ (poll device.now.name taken, polled) ∷ []) × (entered ≡ count_entered polled)) }
     ensures err { OnErr result (seat.new.calls ≡ seat.old.calls) }
 {
-    let reply = desk.poll(rt, seat, device.name.as_slice(), MOST_POLLED)?;
+    let reply = desk.poll(rt, seat, device.name.as_slice(), MAX_POLLED)?;
     let entered = entered_of(&reply);
     device.counts.enter(entered);
     Ok(entered)
@@ -109,7 +109,7 @@ fn transmit<T: Handlers, R: Wait>(
         return Err(DeskFault::NoMemory);
     };
     let device = Sequence::of(name);
-    desk.record(rt, seat, Call::Transmit { device })
+    desk.call_stored(rt, seat, Call::Transmit { device })
 }
 
 /// Sends the next packet that the device transmits. Returns whether it was sent, or `None` if the
@@ -125,16 +125,16 @@ fn send_one<T: Handlers, S: Outbound, R: Wait>(
     requires { seat.old.desk ≡ desk.now }
     ensures same { SameSeat seat.old seat.new }
     ensures ok { IfOk result (λ one. MatchOption one
-        ((reply : AReply) × GivesNone reply × (seat.new.calls ≡ seat.old.calls ++ (transmits device.now.name, reply) ∷ []) × (S.tried sender.new ≡ S.tried sender.old))
-        (λ went. (packet : APacket) × Sends device.now.name seat.old.calls seat.new.calls (S.tried sender.old) (S.tried sender.new) (attempt device.now.name packet went ∷ []))) }
-    ensures err { OnErr result ((seat.new.calls ≡ seat.old.calls) × (S.tried sender.new ≡ S.tried sender.old)) }
+        ((reply : Reply) × GivesNone reply × (seat.new.calls ≡ seat.old.calls ++ (transmits device.now.name, reply) ∷ []) × (S.attempts sender.new ≡ S.attempts sender.old))
+        (λ sent. (packet : APacket) × Sends device.now.name seat.old.calls seat.new.calls (S.attempts sender.old) (S.attempts sender.new) (attempt device.now.name packet sent ∷ []))) }
+    ensures err { OnErr result ((seat.new.calls ≡ seat.old.calls) × (S.attempts sender.new ≡ S.attempts sender.old)) }
 {
     let reply = transmit(rt, alloc, desk, seat, &device.name)?;
     match reply.compact() {
         CompactReply::Sent(packet) => {
-            let went = sender.send(&device.name, packet);
-            device.counts.tried(went);
-            Ok(Some(went))
+            let sent = sender.send(&device.name, packet);
+            device.counts.tried(sent);
+            Ok(Some(sent))
         }
         _ => Ok(None),
     }
@@ -152,13 +152,13 @@ fn send_all<T: Handlers, S: Outbound, R: Wait>(
 ) -> Result<(Tally, bool), DeskFault>
     requires { seat.old.desk ≡ desk.now }
     ensures same { SameSeat seat.old seat.new }
-    ensures ok { IfOk result (λ r. SendsUntil device.now.name seat.old.calls seat.new.calls (S.tried sender.old) (S.tried sender.new) r.0 r.1) }
-    ensures err { OnErr result (Breaks device.now.name seat.old.calls seat.new.calls (S.tried sender.old) (S.tried sender.new)) }
+    ensures ok { IfOk result (λ r. SendsUntil device.now.name seat.old.calls seat.new.calls (S.attempts sender.old) (S.attempts sender.new) r.0 r.1) }
+    ensures err { OnErr result (Breaks device.now.name seat.old.calls seat.new.calls (S.attempts sender.old) (S.attempts sender.new)) }
 {
-    let mut tally = Tally { went: 0, lost: 0 };
-    for _ in 0..MOST_SENT {
+    let mut tally = Tally { sent: 0, lost: 0 };
+    for _ in 0..MAX_SENT {
         match send_one(rt, alloc, desk, seat, device, sender) {
-            Ok(Some(went)) => tally.add(went),
+            Ok(Some(sent)) => tally.add(sent),
             Ok(None) => return Ok((tally, false)),
             Err(fault) => return Err(fault),
         }
@@ -180,9 +180,9 @@ pub fn forward<T: Handlers, S: Outbound, R: Wait>(
 ) -> Result<Turn, DeskFault>
     requires { seat.old.desk ≡ desk.now }
     ensures same { SameSeat seat.old seat.new }
-    ensures ok { IfOk result (λ turn. IsTurn device.now.name seat.old.feeds seat.old.calls seat.new.calls (S.tried sender.old) (S.tried sender.new) turn) }
-    ensures err { OnErr result (IsBroken device.now.name seat.old.feeds seat.old.calls seat.new.calls (S.tried sender.old) (S.tried sender.new)) }
-    ensures forwards { Forwards (device.now.name ∷ []) seat.old.calls seat.new.calls (S.tried sender.old) (S.tried sender.new) }
+    ensures ok { IfOk result (λ turn. IsTurn device.now.name seat.old.feeds seat.old.calls seat.new.calls (S.attempts sender.old) (S.attempts sender.new) turn) }
+    ensures err { OnErr result (IsBroken device.now.name seat.old.feeds seat.old.calls seat.new.calls (S.attempts sender.old) (S.attempts sender.new)) }
+    ensures forwards { Forwards (device.now.name ∷ []) seat.old.calls seat.new.calls (S.attempts sender.old) (S.attempts sender.new) }
 {
     let entered = poll_feed(rt, desk, seat, device)?;
     let (tally, more) = send_all(rt, alloc, desk, seat, device, sender)?;

@@ -19,14 +19,14 @@ use std::os::fd::AsRawFd;
 use std::time::Duration;
 
 /// The size of the buffer for a datagram, in bytes. No datagram has as many, so none is cut.
-const ROOM: usize = 65536;
+const RECEIVE_BUFFER_BYTES: usize = 65536;
 
 /// The system's error numbers of temporary faults that have no name in `ErrorKind`.
 ///
 /// Those of the system are out of memory (12) and no buffer space (105). Those of the network are a
 /// protocol error (71), a message that is too long (90), a protocol that is not available (92), and
 /// a host that is down (112).
-const PASSING: [i32; 6] = [12, 71, 90, 92, 105, 112];
+const TRANSIENT_ERRNOS: [i32; 6] = [12, 71, 90, 92, 105, 112];
 
 /// A socket, the address that it was asked for, its peer, and the datagram that was read last.
 #[derive(Drop)]
@@ -65,7 +65,7 @@ fn is_ready(socket: &UdpSocket) -> bool {
     poll(&mut asked, 0) != 0
 }
 
-fn heard(datagram_socket: &DatagramSocket) -> &[u8]
+fn payload(datagram_socket: &DatagramSocket) -> &[u8]
     ensures { result.now ≡ take datagram_socket.now.len datagram_socket.now.buffer.items }
 {
     &datagram_socket.buffer.as_slice()[..datagram_socket.len]
@@ -88,7 +88,7 @@ impl Model for UdpIn {
 }
 
 impl Inbound for UdpIn {
-    ghost came = { λ u. u.came };
+    ghost received = { λ u. u.came };
 
     ghost current = { λ u. u.current };
 
@@ -113,7 +113,7 @@ impl Inbound for UdpIn {
     }
 
     fn bytes(&self) -> &[u8] {
-        heard(&self.datagram_socket)
+        payload(&self.datagram_socket)
     }
 
     fn is_known(&self) -> bool {
@@ -196,19 +196,19 @@ impl UdpOut {
 }
 
 impl Outbound for UdpOut {
-    ghost tried = { λ u. u.tried };
+    ghost attempts = { λ u. u.tried };
 
     fn send(&mut self, device: &Sequence<u8>, packet: &StoredPacket) -> bool
         ensures tried { self.new.tried ≡ self.old.tried ++ attempt device.now packet.now result ∷ [] }
         ensures lines { self.new.lines ≡ self.old.lines }
         ensures none { line_for device.now self.old.lines ≡ None → result ≡ false }
     {
-        let went = match line_of(self.lines.as_slice(), device.as_slice()) {
+        let sent = match line_of(self.lines.as_slice(), device.as_slice()) {
             Some(line) => line.send(packet.bytes()),
             None => false,
         };
-        self.tried.add(device, packet, went);
-        went
+        self.tried.add(device, packet, sent);
+        sent
     }
 }
 
@@ -227,7 +227,7 @@ fn is_passing(fault: &io::Error) -> bool {
         | ErrorKind::NetworkUnreachable
         | ErrorKind::NetworkDown => true,
         _ => match fault.raw_os_error() {
-            Some(number) => PASSING.contains(&number),
+            Some(number) => TRANSIENT_ERRNOS.contains(&number),
             None => false,
         },
     }
@@ -265,7 +265,7 @@ pub fn open_udp<R: Net>(
         socket,
         here: address,
         peer,
-        buffer: vec![in alloc; 0u8; ROOM]?,
+        buffer: vec![in alloc; 0u8; RECEIVE_BUFFER_BYTES]?,
         len: 0,
         from: peer,
         known: true,

@@ -3,7 +3,7 @@
 ghost use Rattle.std.specs.Prelude.{◌≡◌, ◌≤◌, [], length, IfOk, vec_capacity};
 ghost use Rattle.click_packet.specs.Packet.{longest_packet};
 
-use crate::packet::{LIMIT, Marks, Packet};
+use crate::packet::{Annotations, MAX_PACKET_BYTES, Packet};
 use std::alloc::{AllocError, Global};
 use std::marker::Model;
 
@@ -13,7 +13,7 @@ use std::marker::Model;
 #[derive(Drop)]
 pub struct StoredPacket {
     bytes: Vec<u8>,
-    marks: Marks,
+    annotations: Annotations,
 }
 
 impl Model for StoredPacket {
@@ -24,7 +24,7 @@ impl Model for StoredPacket {
 
     ghost invariant = { λ p. length p.bytes.items ≤ longest_packet };
 
-    ghost view = { λ p. record { bytes = p.bytes.items; paint = p.marks.paint; destination = p.marks.destination } };
+    ghost view = { λ p. record { bytes = p.bytes.items; paint = p.annotations.paint; destination = p.annotations.destination } };
 }
 
 impl StoredPacket {
@@ -34,7 +34,7 @@ impl StoredPacket {
     {
         Ok(StoredPacket {
             bytes: Vec::from_slice(alloc, packet.bytes())?,
-            marks: packet.marks(),
+            annotations: packet.annotations(),
         })
     }
 
@@ -44,7 +44,7 @@ impl StoredPacket {
     {
         Ok(StoredPacket {
             bytes: Vec::from_slice(alloc, self.bytes.as_slice())?,
-            marks: self.marks,
+            annotations: self.annotations,
         })
     }
 
@@ -60,14 +60,14 @@ impl StoredPacket {
     pub fn paint(&self) -> u8
         ensures { result ≡ self.now.paint }
     {
-        self.marks.paint
+        self.annotations.paint
     }
 
     /// Returns the destination.
     pub fn destination(&self) -> [u8; 4]
         ensures { result ≡ self.now.destination }
     {
-        self.marks.destination
+        self.annotations.destination
     }
 
     /// Makes `packet` equal to this one. Does not allocate.
@@ -75,7 +75,7 @@ impl StoredPacket {
         ensures { packet.new ≡ self.now }
     {
         match packet.fill(self.bytes.as_slice()) {
-            Ok(()) => packet.set_marks(self.marks),
+            Ok(()) => packet.set_annotations(self.annotations),
             Err(_) => unreachable!(),
         }
     }
@@ -93,7 +93,7 @@ impl PacketRoom {
     /// Allocates room for 1,600 bytes, or fails with out of memory.
     pub fn new(alloc: Global) -> Result<PacketRoom, AllocError> {
         Ok(PacketRoom {
-            bytes: Vec::with_capacity(alloc, LIMIT)?,
+            bytes: Vec::with_capacity(alloc, MAX_PACKET_BYTES)?,
         })
     }
 
@@ -119,7 +119,7 @@ impl PacketRoom {
     {
         StoredPacket {
             bytes: self.filled(packet.bytes()),
-            marks: packet.marks(),
+            annotations: packet.annotations(),
         }
     }
 
@@ -131,7 +131,7 @@ impl PacketRoom {
     {
         StoredPacket {
             bytes: self.filled(packet.bytes()),
-            marks: packet.marks,
+            annotations: packet.annotations,
         }
     }
 }

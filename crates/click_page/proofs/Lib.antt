@@ -1,7 +1,6 @@
 mod CommandCalls
 pub mod FieldSequences
 mod Hosts
-pub mod OpenedNet
 mod QueryPairs
 mod RequestAnswers
 mod RequestLaws

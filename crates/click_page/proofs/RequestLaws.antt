@@ -16,7 +16,7 @@ use Rattle.click_page.specs.declared.page_request.RequestRefusal.TheVariants as 
 pub foreign : (port : ℕ) (head : Parts) (body : List ℕ) → is_for_own_host port head ≡ false → commands_of (parse_request port head body) ≡ []
 unfolding parse_request
 foreign port head body e =
-    ap (λ b. commands_of (if b then request_at (route_of (uri_path head.uri)) head body else page_request.Refused refusal.Stranger)) e
+    ap (λ b. commands_of (if b then request_at (route_of (uri_path head.uri)) head body else page_request.Refused refusal.ForeignHost)) e
 
 -- ---- a property of both results of a choice is one of the choice
 either : (Q : PageRequest → Type 0) (b : Bool) (w v : PageRequest) → Q w → Q v → Q (if b then w else v)
@@ -44,7 +44,7 @@ place_reads _ head body e = refl
 
 -- a write needs the method and the header
 write_gate : (method marked : Bool) (w : PageRequest) → (marked && method) ≡ false
-    → OnlyReads (if method then (if not marked then page_request.Refused refusal.NoMark else w) else page_request.Refused refusal.WrongMethod)
+    → OnlyReads (if method then (if not marked then page_request.Refused refusal.MissingHeader else w) else page_request.Refused refusal.WrongMethod)
 unfolding OnlyReads
 write_gate true true w e = absurd (cc)
 write_gate true false w e = refl
@@ -71,7 +71,7 @@ pub unmarked : (port : ℕ) (head : Parts) (body : List ℕ) → (has_page_heade
     → AreReads (commands_of (parse_request port head body))
 unfolding OnlyReads parse_request
 unmarked port head body e =
-    either (λ w. AreReads (commands_of w)) (is_for_own_host port head) (request_at (route_of (uri_path head.uri)) head body) (page_request.Refused refusal.Stranger)
+    either (λ w. AreReads (commands_of w)) (is_for_own_host port head) (request_at (route_of (uri_path head.uri)) head body) (page_request.Refused refusal.ForeignHost)
     (asked_reads (route_of (uri_path head.uri)) head body e) refl
 
 -- ---- the number of commands
@@ -121,13 +121,13 @@ asked_few (Some p) head body =
     let none : 0 ≤ 256 = omega arith in
     let asked = request_on_route p head body in
     let stops = is_write p && not (has_page_header head) in
-    either Q (bytes_eq head.method (method_at p)) (if stops then page_request.Refused refusal.NoMark else asked) (page_request.Refused refusal.WrongMethod)
-    (either Q stops (page_request.Refused refusal.NoMark) asked none (place_few p head body)) none
+    either Q (bytes_eq head.method (method_at p)) (if stops then page_request.Refused refusal.MissingHeader else asked) (page_request.Refused refusal.WrongMethod)
+    (either Q stops (page_request.Refused refusal.MissingHeader) asked none (place_few p head body)) none
 
 pub few : (port : ℕ) (head : Parts) (body : List ℕ) → length (commands_of (parse_request port head body)) ≤ 256
 unfolding Few parse_request
 few port head body =
-    either (λ w. length (commands_of w) ≤ 256) (is_for_own_host port head) (request_at (route_of (uri_path head.uri)) head body) (page_request.Refused refusal.Stranger)
+    either (λ w. length (commands_of w) ≤ 256) (is_for_own_host port head) (request_at (route_of (uri_path head.uri)) head body) (page_request.Refused refusal.ForeignHost)
     (asked_few (route_of (uri_path head.uri)) head body) (omega arith)
 
 -- ---- a read-only page

@@ -106,18 +106,18 @@ request_on_route route.Swap head body = page_request.Write (codes "hotconfig") b
 abbrev pub if_allowed : Route → Parts → PageRequest → PageRequest
 if_allowed p head w =
     if bytes_eq head.method (method_at p)
-    then (if is_write p && not (has_page_header head) then page_request.Refused refusal.NoMark else w)
+    then (if is_write p && not (has_page_header head) then page_request.Refused refusal.MissingHeader else w)
     else page_request.Refused refusal.WrongMethod
 
 -- what a request for this page's own host asks for; the route is none if its path is unknown
 unfoldable pub request_at : Option Route → Parts → List ℕ → PageRequest
-request_at None head body = page_request.Refused refusal.NoPlace
+request_at None head body = page_request.Refused refusal.NotFound
 request_at (Some p) head body = if_allowed p head (request_on_route p head body)
 
 -- what a request with this head and body asks of the page at this port
 unfoldable pub parse_request : ℕ → Parts → List ℕ → PageRequest
 parse_request port head body =
-    if is_for_own_host port head then request_at (route_of (uri_path head.uri)) head body else page_request.Refused refusal.Stranger
+    if is_for_own_host port head then request_at (route_of (uri_path head.uri)) head body else page_request.Refused refusal.ForeignHost
 
 -- ---- commands
 

@@ -14,7 +14,7 @@ use Rattle.click_expand.specs.declared.flat.FlatElement.{FlatElement}
 use Rattle.click_ports.specs.Net.{Net}
 use Rattle.click_router.specs.Opened.{IsOpened}
 use Rattle.click_router.specs.State.{RouterState}
-use Rattle.click_page.specs.Drawn.{IsFormNet, Shows}
+use Rattle.click_draw.specs.Drawn.{IsFormNet, Shows}
 
 -- Bytes as a JSON string. Each byte is the character with its number, so that no byte is lost.
 abbrev pub bytes_data : List ℕ → Data

@@ -1,6 +1,5 @@
 pub mod Answering
 pub mod Asking
-pub mod Drawn
 pub mod Form
 pub mod Reads
 pub mod Saying

@@ -16,7 +16,7 @@ use Rattle.click_control.specs.declared.command.Command.TheVariants as command
 use Rattle.click_control.specs.declared.command.Answer.{Answer}
 use Rattle.click_control.specs.declared.command.Answer.TheVariants as answer
 use Rattle.click_page.specs.Asking.{reading}
-use Rattle.click_page.specs.Drawn.{IsPicture}
+use Rattle.click_draw.specs.Drawn.{IsPicture}
 use Rattle.click_page.specs.Form.{IsFlatText, bytes_data, list_data}
 use Rattle.click_page.specs.declared.content_kind.ContentKind.{ContentKind}
 use Rattle.click_page.specs.declared.content_kind.ContentKind.TheVariants as kind
@@ -78,17 +78,17 @@ abbrev pub Says : ℕ → ContentKind → List ℕ → Response → Type 0
 Says status k body r = IsResponse status (fields_for k) body r
 
 abbrev pub status_of : RequestRefusal → ℕ
-status_of why.Stranger = 403
-status_of why.NoPlace = 404
+status_of why.ForeignHost = 403
+status_of why.NotFound = 404
 status_of why.WrongMethod = 405
-status_of why.NoMark = 403
+status_of why.MissingHeader = 403
 status_of why.WrongQuery = 400
 
 abbrev pub refusal_line : RequestRefusal → List ℕ
-refusal_line why.Stranger = codes "this page is at 127.0.0.1 alone\n"
-refusal_line why.NoPlace = codes "there is nothing of that name\n"
+refusal_line why.ForeignHost = codes "this page is at 127.0.0.1 alone\n"
+refusal_line why.NotFound = codes "there is nothing of that name\n"
 refusal_line why.WrongMethod = codes "another method is wanted here\n"
-refusal_line why.NoMark = codes "a write needs the header x-click-page\n"
+refusal_line why.MissingHeader = codes "a write needs the header x-click-page\n"
 refusal_line why.WrongQuery = codes "the query names no handlers, or too many\n"
 
 -- The response to a request for the picture or the flat form, by the answer to the read of the

@@ -2,27 +2,25 @@
 //! and the response to it.
 #![tactic(auto)]
 
-mod asking;
+mod answer_json;
+mod calls;
 mod content_kind;
-mod entries;
-mod form;
-mod heads;
+mod flat_json;
+mod headers;
 pub mod laws;
 mod own_host;
 mod page_request;
 mod page_text;
-mod picture;
 mod queries;
 mod requests;
+mod responding;
 mod route;
-mod saying;
 mod service;
 mod values;
 
 pub use content_kind::ContentKind;
-pub use form::flat_text;
+pub use flat_json::flat_text;
 pub use page_request::{PageRequest, RequestRefusal};
 pub use page_text::{PAGE, POLICY};
-pub use picture::picture_of;
 pub use requests::parse_request;
 pub use service::Page;

@@ -29,14 +29,14 @@ pub enum PageRequest {
 pub enum RequestRefusal {
     /// Its Host or its target names another host. A page of another origin may have sent it.
     #[error("this page is at 127.0.0.1 alone")]
-    Stranger,
+    ForeignHost,
     #[error("there is nothing of that name")]
-    NoPlace,
+    NotFound,
     #[error("another method is wanted here")]
     WrongMethod,
     /// It is a write, and lacks the header that browsers do not let a page of another origin send.
     #[error("a write needs the header x-click-page")]
-    NoMark,
+    MissingHeader,
     /// Its query has a parameter other than `handler`, no handler, more than one for a write, or
     /// more than 256.
     #[error("the query names no handlers, or too many")]

@@ -11,14 +11,14 @@ use form_urlencoded::{decode, raw_pairs};
 use std::alloc::{AllocError, Global};
 
 /// The maximum number of handlers that a request reads.
-const MOST_READ: usize = 256;
+const MAX_HANDLERS: usize = 256;
 
 /// Returns what a query asks to read.
 pub(crate) fn read_of(alloc: Global, query: &[u8]) -> Result<PageRequest, AllocError>
     ensures { IfOk result (λ w. w ≡ read_of (raw_pairs query.now)) }
 {
     match handler_count(query) {
-        Some(1..=MOST_READ) => Ok(PageRequest::Read {
+        Some(1..=MAX_HANDLERS) => Ok(PageRequest::Read {
             handlers: Sequence::of(handlers_in(alloc, query)?),
         }),
         _ => Ok(PageRequest::Refused(RequestRefusal::WrongQuery)),

@@ -27,7 +27,7 @@ pub fn parse_request(
     if is_for_own_host(port, request) {
         request_at(alloc, route_of(request.uri().path()), request)
     } else {
-        Ok(PageRequest::Refused(RequestRefusal::Stranger))
+        Ok(PageRequest::Refused(RequestRefusal::ForeignHost))
     }
 }
 
@@ -42,14 +42,14 @@ fn request_at(
     ensures { IfOk result (λ w. w ≡ request_at route (head_of request.now) (body_of request.now)) }
 {
     let Some(route) = route else {
-        return Ok(PageRequest::Refused(RequestRefusal::NoPlace));
+        return Ok(PageRequest::Refused(RequestRefusal::NotFound));
     };
     let method = if route.is_write() { "POST" } else { "GET" };
     if request.method().as_str() != method {
         return Ok(PageRequest::Refused(RequestRefusal::WrongMethod));
     }
     if route.is_write() && !has_page_header(request) {
-        return Ok(PageRequest::Refused(RequestRefusal::NoMark));
+        return Ok(PageRequest::Refused(RequestRefusal::MissingHeader));
     }
     request_on_route(alloc, route, request)
 }

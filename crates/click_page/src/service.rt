@@ -5,10 +5,10 @@ ghost use Rattle.http_server.specs.Response.{IsBlank};
 ghost use Rattle.click_page.specs.Asking.{commands_of};
 ghost use Rattle.click_page.specs.Saying.{SaysFor, SaysNoMemory};
 
-use crate::asking::{ask_all, calls_of};
+use crate::calls::{ask_all, calls_of};
 use crate::page_request::PageRequest;
 use crate::requests::parse_request;
-use crate::saying::say;
+use crate::responding::respond;
 use bytes::Bytes;
 use click_control::{Answer, Port};
 use http::{Request, StatusCode};
@@ -90,7 +90,7 @@ fn tell(alloc: Global, page_request: &PageRequest, answers: &[Answer], response:
     requires each { length answers.now ≡ length (commands_of page_request.now) }
     ensures { SaysFor page_request.now answers.now response.new ⊎ SaysNoMemory response.new }
 {
-    if say(alloc, page_request, answers, response).is_err() {
+    if respond(alloc, page_request, answers, response).is_err() {
         response.clear();
         response.status = StatusCode::SERVICE_UNAVAILABLE;
     }

@@ -12,7 +12,7 @@ use click_desk::{Book, Entry, SettleFault, View};
 use click_lines::{entry_line, hex_text};
 use click_packet::{PacketRoom, StoredPacket};
 use click_rings::opening::feed as make_feed;
-use click_rings::{FeedEnd, Inlet, PacketConsumer};
+use click_rings::{FeedConsumer, FeedEnd, Inlet};
 use click_router::CompactReply;
 use std::alloc::{AllocError, Global};
 use std::marker::Model;
@@ -74,7 +74,7 @@ fn second_feed(alloc: Global, device: &[u8], digits: &[u8]) -> Result<(FeedEnd, 
 fn left_in(alloc: Global, inlet: Inlet, mut end: FeedEnd) -> Result<Vec<StoredPacket>, AllocError>
     requires { end.ring ≡ inlet.ring }
 {
-    let mut consumer = PacketConsumer::of(inlet);
+    let mut consumer = FeedConsumer::of(inlet);
     consumer.drain(alloc, &mut end)
 }
 

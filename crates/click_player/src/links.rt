@@ -7,8 +7,8 @@ use crate::script::{Trouble, cut, number_of};
 use click_base::sequence::Sequence;
 use click_lines::hex_text;
 use click_links::{
-    CountSnapshot, Datagram, Device, Ended, Intake, MemoryIn, MemoryOut, Received, SweepResult,
-    Turn, receive,
+    CountSnapshot, Datagram, Device, Ended, MemoryIn, MemoryOut, ReceiverReport, RecordedFeed,
+    SweepResult, Turn, receive,
 };
 use hex::FromHexError;
 use std::alloc::{AllocError, Global};
@@ -122,11 +122,11 @@ pub fn receive_all(
     driver: Driver,
     link: MemoryIn,
     device: &Device,
-) -> (Driver, Received)
+) -> (Driver, ReceiverReport)
     ensures { result.0 ≡ driver }
 {
     let Driver { device: name, feed } = driver;
-    let mut intake = Intake::of(feed);
+    let mut intake = RecordedFeed::of(feed);
     let mut link = link;
     let stop = AtomicBool::new(false);
     let wake = Parker::new();
@@ -137,7 +137,7 @@ pub fn receive_all(
 }
 
 /// Returns the text of the outcome of a receiver.
-pub fn received_text(alloc: Global, received: &Received) -> Result<Vec<u8>, AllocError> {
+pub fn received_text(alloc: Global, received: &ReceiverReport) -> Result<Vec<u8>, AllocError> {
     let end = match received.ended {
         Ended::Stopped => "stopped",
         Ended::Link => "link ended",
@@ -176,10 +176,10 @@ pub fn turn_text(alloc: Global, turn: &Turn) -> Result<Vec<u8>, AllocError> {
         return Vec::from_slice(alloc, b"idle");
     }
     let entered = turn.entered;
-    let went = turn.tally.went;
+    let sent = turn.tally.sent;
     let lost = turn.tally.lost;
     let more = if turn.more { ", more" } else { "" };
-    let text = format!(in alloc; "entered {entered}, sent {went}, lost {lost}{more}")?;
+    let text = format!(in alloc; "entered {entered}, sent {sent}, lost {lost}{more}")?;
     Ok(text.into_bytes())
 }
 

@@ -2,11 +2,9 @@
 
 use crate::devices::{Input, Writer};
 use crate::script::{Step, Trouble, cut, number_of};
+use click_control::MAX_READS;
 use std::alloc::Global;
 use std::cell::Cell;
-
-/// The number of reads that a session may have if its step has no `reads=`.
-const MAX_READS: u32 = 4_294_967_295;
 
 /// The reads, or writes, of a session that fail.
 #[derive(Clone, Copy, PartialEq, Eq)]

@@ -46,7 +46,7 @@ impl<'a> Report<'a> {
     pub fn called_again(&self, line: usize) {
         let file = self.file;
         // A failed write does not change the outcome.
-        let _ = println!(self.host; "{file}:{line}: memory ran out; called again");
+        let _ = println!(self.host; "{file}:{line}: out of memory; the step is played again");
     }
 
     /// Reports why a script cannot be read, and returns the status.
@@ -61,7 +61,10 @@ impl<'a> Report<'a> {
     pub fn troubled(&self, line: usize, trouble: Trouble) -> Status {
         match trouble {
             Trouble::NoMemory => Status::NoMemory,
-            Trouble::Malformed => self.malformed(line, "no step has these words here"),
+            Trouble::Malformed => self.malformed(
+                line,
+                "the words are not a step that is allowed here",
+            ),
         }
     }
 

@@ -224,7 +224,7 @@ fn add_step<'a>(
     line: &'a [u8],
 ) -> Result<(), ScriptFault> {
     let Some(case) = cases.last_mut() else {
-        return Err(fault(number, "the step stands before the first case"));
+        return Err(fault(number, "the step comes before the first case"));
     };
     let (who, rest) = cut(line, b'\t');
     if memchr(b'\t', rest).is_none() {
@@ -253,10 +253,10 @@ fn add_bytes<'a>(
     line: &[u8],
 ) -> Result<(), ScriptFault> {
     let Some(case) = cases.last_mut() else {
-        return Err(fault(number, "the bytes stand before the first step"));
+        return Err(fault(number, "the bytes come before the first step"));
     };
     let Some(step) = case.steps.last_mut() else {
-        return Err(fault(number, "the bytes stand before the first step"));
+        return Err(fault(number, "the bytes come before the first step"));
     };
     let (mark, rest) = cut(line, b' ');
     match mark {
@@ -270,7 +270,7 @@ fn add_bytes<'a>(
             step.add_output(bytes.as_slice())?;
             Ok(())
         }
-        _ => Err(fault(number, "a blank has to follow the mark")),
+        _ => Err(fault(number, "the mark < or > must be followed by a space")),
     }
 }
 
@@ -302,7 +302,10 @@ fn resolved(
     match push_text(alloc, &mut bytes, text, spelled) {
         Ok(()) => Ok(bytes),
         Err(Trouble::NoMemory) => Err(ScriptFault::NoMemory),
-        Err(Trouble::Malformed) => Err(fault(line, "a backslash has no escape behind it")),
+        Err(Trouble::Malformed) => Err(fault(
+            line,
+            "a backslash must be followed by two lower-case hex digits or by *N(TEXT)",
+        )),
     }
 }
 

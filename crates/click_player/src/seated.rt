@@ -12,7 +12,7 @@ use crate::links::{LinkEnds, datagrams_of, receive_all};
 use crate::script::{Step, Trouble};
 use crate::sessions::{Said, serve};
 use click_desk::{CloseRefused, Desk, DeskFault, Notice, Seat, View};
-use click_links::{Received, SweepResult, Turn, forward, sweep};
+use click_links::{ReceiverReport, SweepResult, Turn, forward, sweep};
 use click_router::{Call, Check, Handlers, Reply};
 use std::alloc::{AllocError, Global};
 use std::marker::Model;
@@ -179,7 +179,7 @@ impl<'a, T: Drop, R: Wait> Seated<'a, T, R> {
         alloc: Global,
         device: &[u8],
         datagrams: &[u8],
-    ) -> Result<Received, Trouble> {
+    ) -> Result<ReceiverReport, Trouble> {
         let link = datagrams_of(alloc, datagrams)?;
         let Some(links) = &self.links else {
             return Err(Trouble::Malformed);

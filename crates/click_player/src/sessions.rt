@@ -10,11 +10,12 @@ pub use crate::replies::Said;
 use crate::replies::{end_and_calls, end_text, say};
 use crate::script::{Step, Trouble, cut};
 use crate::stand_in::serve_port;
-use click_control::{Open, Reading, Writing};
+use click_control::Open;
 use click_desk::{Desk, Seat};
 use click_handlers::{Table, TakesTable, with_table};
 use click_router::{Check, Handlers};
-use click_workers::{Ran, RunFault, SeatPort, run, serve_at};
+use click_streams::{Reading, Writing};
+use click_workers::{Ran, RunFault, SeatPort, run, serve_seat};
 use std::alloc::{AllocError, Global};
 use std::cell::Cell;
 use std::sync::Wait;
@@ -34,7 +35,7 @@ fn serve_attempt<T: Handlers + Drop, R: Wait>(
     let written = Cell::new(0);
     let mut reader = Reading::new(Reader::new(attempt.input, &written));
     let mut writer = Writing::new(attempt.writer(alloc, &written));
-    let (ended, seat) = serve_at(
+    let (ended, seat) = serve_seat(
         alloc,
         SeatPort::new(rt, desk, seat),
         &mut reader,

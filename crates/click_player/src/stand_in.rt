@@ -5,9 +5,10 @@ use crate::options::Attempt;
 use crate::replies::{Said, end_and_calls, say};
 use crate::script::Trouble;
 use click_base::sequence::Sequence;
-use click_control::{AskFault, Port, Reading, Turns, Writing, serve_turns};
+use click_control::{AskFault, Port, Turns, serve_turns};
 use click_handlers::HandlerFault;
 use click_router::{Call, CompactReply, StoredReply};
+use click_streams::{Reading, Writing};
 use std::alloc::{AllocError, Global};
 use std::cell::Cell;
 
@@ -69,7 +70,7 @@ fn write_of(name: &[u8], text: &[u8]) -> StoredReply {
 impl Port for OneCounter<'_> {
     ghost asks = { λ _ _ _ _. Unit {0} };
 
-    fn record(&mut self, alloc: Global, call: Call) -> Result<StoredReply, AskFault> {
+    fn ask_stored(&mut self, alloc: Global, call: Call) -> Result<StoredReply, AskFault> {
         self.done.calls.set(self.done.calls.get().saturating_add(1));
         match call {
             Call::Read { name, text } => read_of(alloc, name.as_slice(), text.as_slice()),

@@ -6,8 +6,8 @@ ghost use Rattle.click_ports.specs.kept.Ends.{AreFarEnds};
 ghost use Rattle.click_ports.specs.kept.Marks.{AreMarks, AreCodes};
 ghost use Rattle.click_ports.specs.kept.Wiring.{AreWithin};
 
+use crate::internal_links::all_internal_links;
 use crate::layout::Layout;
-use crate::passages::all_passages;
 use crate::row::Row;
 use crate::search::ports_reaching;
 use click_classes::Code;
@@ -39,7 +39,7 @@ pub fn kinds_of(alloc: Global, layout: &Layout, ends: &[Row]) -> Result<Kinds, A
     ensures pulls { IfOk result (λ kinds. AreMarks layout.now Pull kinds.pulls.items) }
 {
     let all_codes = codes_of(alloc, layout)?;
-    let all_inside = all_passages(alloc, layout)?;
+    let all_inside = all_internal_links(alloc, layout)?;
     let codes = all_codes.as_slice();
     let inside = all_inside.as_slice();
     let pushes = ports_reaching(alloc, codes, ends, inside, Code::Push)?;

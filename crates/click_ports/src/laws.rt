@@ -24,7 +24,8 @@ pub fn order_is_free()
 
 /// A port that reaches no push or pull port is push.
 ///
-/// This includes each port of a ring of agnostic ports that are linked only with one another.
+/// This includes each port of a set of agnostic ports that are linked only with one another
+/// (`ring`).
 pub fn push_by_default()
     ensures alone { (ss : List Shape) (cs : List Connection) (p : Port) → ((q : Port) → Reaches ss cs p q → ⊥) → IsPush ss cs p }
     ensures ring { (ss : List Shape) (cs : List Connection) (ring : Port → Bool) → ((p : Port) → ring p ≡ true → IsAgnostic ss p)

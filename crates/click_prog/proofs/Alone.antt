@@ -1,6 +1,6 @@
 -- A lemma on a run of a session with nothing in parallel.
 use Rattle.std.proofs.Common.{ℕ, List, Bool, Option}
-use Rattle.click_control.specs.Peers.{Input, Output}
+use Rattle.click_streams.specs.Peers.{Input, Output}
 use Rattle.click_prog.specs.Running.{RunsTo, RunsAlone, fresh_input, fresh_output}
 use Rattle.click_cli.specs.declared.status.Status.{Status}
 

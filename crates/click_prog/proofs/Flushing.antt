@@ -5,16 +5,15 @@ use Rattle.std.specs.Io.KnownBytes.{Appends, append_known}
 use Rattle.click_capture.specs.Captures.{Record}
 use Rattle.click_capture.specs.declared.header.Header.{Header}
 use Rattle.click_capture.specs.declared.record.Time.{Time}
-use Rattle.click_control.specs.Peers.{Input, Output, HasWritten}
+use Rattle.click_streams.specs.Peers.{Input, Output, HasWritten, WroteFront}
 use Rattle.click_prog.specs.declared.pcap.carry_fault.CarryFault.{CarryFault}
 use Rattle.click_prog.specs.declared.pcap.carry_fault.CarryFault.TheVariants as carry_fault
 use Rattle.click_prog.specs.declared.pcap.carry_fault.SendFault.{SendFault}
 use Rattle.click_prog.specs.declared.pcap.carry_fault.SendFault.TheVariants as unsent
 use Rattle.click_prog.specs.Buffers.{BufferState, taken}
-use Rattle.click_prog.specs.Writing.{WroteFront}
 use Rattle.click_prog.specs.Passages.{PassageState, went}
 use Rattle.click_prog.specs.Carrying.{SendsAll, Interrupted, Carried, Ends, CarriesBehind, Carries, CarriesThrough}
-use Rattle.click_prog.proofs.Peers.{or-false, or-true}
+use Rattle.click_streams.proofs.Peers.{or-false, or-true}
 use Rattle.click_prog.proofs.Outputs.{HasWritten-flushed, none_held}
 
 pub carried-flushed : (h : Header) (had left : Input) (held holds now : Output) (first new : PassageState) (records : List Record)

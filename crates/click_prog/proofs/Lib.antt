@@ -9,7 +9,6 @@ pub mod Spelling
 pub mod Quiet
 pub mod InputLines
 pub mod Replaying
-pub mod Peers
 pub mod Pieces
 pub mod Routers
 pub mod Passing

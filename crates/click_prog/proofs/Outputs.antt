@@ -2,9 +2,9 @@
 use Rattle.std.proofs.Common.{◌≡◌, ℕ, List, [], ◌++◌, Bool, false, ◌||◌, Option, None, Some, refl, sym, ap, subst, append-nil, ◌∙◌}
 use Rattle.std.specs.Io.KnownBytes.{Appends, append_known}
 use Rattle.std.proofs.KnownBytes.{Appends-nil, Appends-trans}
-use Rattle.click_control.specs.Peers.{Output, HasWritten}
+use Rattle.click_streams.specs.Peers.{Output, HasWritten}
 use Rattle.click_prog.specs.Buffers.{BufferState, taken}
-use Rattle.click_prog.proofs.Peers.{or-false}
+use Rattle.click_streams.proofs.Peers.{or-false}
 
 pub HasWritten-nil : (a : Output) → HasWritten a a [] false
 HasWritten-nil a = record { appended = Appends-nil a.contents; failed = sym (or-false a.failed) }

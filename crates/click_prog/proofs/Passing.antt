@@ -11,7 +11,7 @@ use Rattle.click_capture.specs.Captures.{Record, whole, header_bytes, record_byt
 use Rattle.click_capture.specs.declared.header.Header.{Header}
 use Rattle.click_capture.specs.declared.order.Order.{Order}
 use Rattle.click_capture.specs.declared.record.Time.{Time}
-use Rattle.click_control.specs.Peers.{Input, Output, HasWritten}
+use Rattle.click_streams.specs.Peers.{Input, Output, HasWritten}
 use Rattle.click_router.specs.State.{RouterState}
 use Rattle.click_prog.specs.declared.pcap.carry_fault.SendFault.{SendFault}
 use Rattle.click_prog.specs.declared.pcap.carry_fault.SendFault.TheVariants as unsent

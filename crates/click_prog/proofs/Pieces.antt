@@ -6,8 +6,8 @@ use borrow.Rule.Slice.PartMut.{put_mid, post_of}
 use Rattle.click_capture.specs.Numbers.{word}
 use Rattle.click_capture.specs.Captures.{head_bytes}
 use Rattle.click_capture.specs.declared.order.Order.{Order}
-use Rattle.click_capture.specs.declared.record.Head.{Head}
-use Rattle.click_control.specs.Peers.{Input}
+use Rattle.click_capture.specs.declared.record.RecordHeader.{RecordHeader}
+use Rattle.click_streams.specs.Peers.{Input}
 use Rattle.click_prog.specs.Reading.{Took, ReadFails}
 
 -- the first bytes, and then those that a read put after them
@@ -29,6 +29,6 @@ pub fails-then : (a b c : Input) (xs : List ℕ) → Took a b xs → ReadFails b
 fails-then a b c xs p q = record { bytes = xs ++ q.bytes; consumed = Consumes-trans a.remaining b.remaining c.remaining xs q.bytes p.consumed q.consumed; failed = q.failed }
 
 -- the bytes of a record header, and then those of a packet, are those of the record
-pub before_packet : (o : Order) (head : Head) (bytes : List ℕ) → length bytes ≡ head.kept
+pub before_packet : (o : Order) (head : RecordHeader) (bytes : List ℕ) → length bytes ≡ head.kept
     → head_bytes o (record { time = head.time; kept = length bytes; wire = head.wire }) ≡ head_bytes o head
 before_packet o head bytes len = ap (λ (k : ℕ). word o head.time.seconds ++ word o head.time.fraction ++ word o k ++ word o head.wire) len

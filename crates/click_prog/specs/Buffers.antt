@@ -1,7 +1,7 @@
 -- A buffer in front of a sink.
 use Rattle.std.specs.Prelude.{ℕ, List}
 use Rattle.std.specs.Io.KnownBytes.{append_known}
-use Rattle.click_control.specs.Peers.{Output}
+use Rattle.click_streams.specs.Peers.{Output}
 
 -- the sink, and the bytes that the buffer took and that are not written yet
 pub record BufferState (O : Type 0) : Type 0 where

@@ -6,8 +6,8 @@ use Rattle.click_capture.specs.Captures.{Record, whole, header_bytes, head_bytes
 use Rattle.click_capture.specs.declared.order.Order.{Order}
 use Rattle.click_capture.specs.declared.header.Header.{Header}
 use Rattle.click_capture.specs.declared.record.Time.{Time}
-use Rattle.click_capture.specs.declared.record.Head.{Head}
-use Rattle.click_control.specs.Peers.{Input, Output, HasWritten}
+use Rattle.click_capture.specs.declared.record.RecordHeader.{RecordHeader}
+use Rattle.click_streams.specs.Peers.{Input, Output, HasWritten, WroteFront}
 use Rattle.click_router.specs.State.{RouterState}
 use Rattle.click_prog.specs.declared.pcap.reading.HeaderReadFault.{HeaderReadFault}
 use Rattle.click_prog.specs.declared.pcap.reading.HeaderReadFault.TheVariants as no_header
@@ -16,7 +16,6 @@ use Rattle.click_prog.specs.declared.pcap.carry_fault.CarryFault.TheVariants as 
 use Rattle.click_prog.specs.declared.pcap.carry_fault.SendFault.{SendFault}
 use Rattle.click_prog.specs.declared.pcap.carry_fault.SendFault.TheVariants as unsent
 use Rattle.click_prog.specs.Reading.{Took, TookAll, ReadFails, ReadsHeader, IsCut}
-use Rattle.click_prog.specs.Writing.{WroteFront}
 use Rattle.click_prog.specs.Passages.{PassageState, went, packet_of, Enters, Asked, Gave, Leads}
 
 -- The snap length of the header to write: it has room for each packet that a router may send. 0
@@ -113,7 +112,7 @@ Ends h had left held holds first new (Err (carry_fault.Cut number at)) =
     × IsNextAt h records at
 Ends h had left held holds first new (Err (carry_fault.TooLong number at fault)) =
     (records : List Record) × (mid : Input) × Carried h had mid held holds first new records × (number ≡ length records + 1)
-    × ((head : Head) × Took mid left (head_bytes h.order head) × (head.kept ≡ fault.claimed) × (fault.most ≡ longest h.snap) × (fault.most < fault.claimed)) × IsNextAt h records at
+    × ((head : RecordHeader) × Took mid left (head_bytes h.order head) × (head.kept ≡ fault.claimed) × (fault.most ≡ longest h.snap) × (fault.most < fault.claimed)) × IsNextAt h records at
 Ends h had left held holds first new (Err carry_fault.ReadFailed) =
     (records : List Record) × (mid : Input) × Carried h had mid held holds first new records × ReadFails mid left
 Ends h had left held holds first new (Err (carry_fault.GivesOn number at)) =

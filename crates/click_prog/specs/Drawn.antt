@@ -3,7 +3,7 @@ use Rattle.std.specs.Prelude.{◌≡◌, ◌⊎◌, ℕ, List, Option}
 use Rattle.std.specs.Io.KnownBytes.{Appends}
 use Rattle.click_router.specs.Opened.{IsFirstFault, IsMemoryOr}
 use Rattle.click_router.specs.declared.fault.ConfigFault.{ConfigFault}
-use Rattle.click_page.specs.Drawn.{IsPicture}
+use Rattle.click_draw.specs.Drawn.{IsPicture}
 use Rattle.click_cli.specs.Statuses.{config_status}
 use Rattle.click_cli.specs.declared.status.Status.{Status}
 use Rattle.click_cli.specs.declared.status.Status.TheVariants as status

@@ -13,7 +13,6 @@ pub mod InputLines
 pub mod Replays
 pub mod CallsStatuses
 pub mod Reading
-pub mod Writing
 pub mod Buffers
 pub mod Passages
 pub mod Carrying

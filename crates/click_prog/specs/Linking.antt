@@ -1,11 +1,11 @@
 -- A run with links, and its status.
 use Rattle.std.specs.Prelude.{◌≡◌, ◌⊎◌, ℕ, ◌+◌, ◌++◌, List, [], ◌∷◌, Bool, Option, Some, None, map, option_map}
-use Rattle.click_control.specs.Peers.{Input, Output}
+use Rattle.click_streams.specs.Peers.{Input, Output}
 use Rattle.click_desk.specs.BookState.{BookState}
 use Rattle.click_desk.specs.declared.open.OpenFault.{OpenFault}
 use Rattle.click_links.specs.Ends.{Attempt, Hearing}
 use Rattle.click_links.specs.Forwarding.{sent_by, gifts_by}
-use Rattle.click_links.specs.declared.run.Receiving.{Receiving}
+use Rattle.click_links.specs.declared.run.Receiver.{Receiver}
 use Rattle.click_desk.specs.SeatStates.{SeatState}
 use Rattle.click_http.specs.declared.serving.Ended.{Ended}
 use Rattle.click_workers.specs.Beside.{BesideWork}
@@ -28,18 +28,18 @@ use Rattle.click_cli.specs.declared.status.Status.TheVariants as status
 -- in order, after those sent before (`sent`). What each receiver received is what it dropped, for
 -- its cause, what the history polled of its device, and what is left (`links`).
 pub record HasLinked {D Rd Wr G Seats Done : Type 0} (sittings : Seats → List SeatState) (many : ℕ) (does : Seats → Seats → Done → Type 0) (lets_in : D → ℕ → Option (Rd × Wr) → Type 0) (input : Rd → Input) (output : Wr → Output) (gives : G → ℕ → ℕ → Bool → Type 0)
-    (told : G → ℕ → ℕ → Type 0) (door : D) (readonly : Bool) (text : List ℕ) (places workers turns : ℕ) (receivers : List (Receiving Hearing)) (before : List Attempt) (book : BookState) (ended : List SessionEnd)
+    (told : G → ℕ → ℕ → Type 0) (door : D) (readonly : Bool) (text : List ℕ) (places workers turns : ℕ) (receivers : List (Receiver Hearing)) (before : List Attempt) (book : BookState) (ended : List SessionEnd)
     (drivers : List Bool) (after : List Attempt) (ends : List (LinkEnd Hearing)) (done : Done) : Type 0 where
   pub gate : G
-  pub headline : LinkedHeadline (map (λ (r : Receiving Hearing). r.device) receivers) text (places + workers + (1 + many)) book
-  pub work : BesideWork (λ (s : SeatState × Seats). s.0 ∷ sittings s.1) (1 + many) (ForwardsBeside (map (λ (r : Receiving Hearing). r.device) receivers) before after does)
+  pub headline : LinkedHeadline (map (λ (r : Receiver Hearing). r.device) receivers) text (places + workers + (1 + many)) book
+  pub work : BesideWork (λ (s : SeatState × Seats). s.0 ∷ sittings s.1) (1 + many) (ForwardsBeside (map (λ (r : Receiver Hearing). r.device) receivers) before after does)
       (AttendedInTurn lets_in input output gives told door gate readonly turns) (DroveFor gives told gate None) places workers book.seats ended drivers done
   pub sent : (device : List ℕ) → sent_by device after ≡ sent_by device before ++ gifts_by device (calls_in book.entries)
-  pub links : SideBySide (λ (r : Receiving Hearing) (e : LinkEnd Hearing). (e.device ≡ r.device) × LinkRan book.entries r.device r.link.came e.link.came e.received.dropped (option_map (λ l. l.items) e.left)) receivers ends
+  pub links : SideBySide (λ (r : Receiver Hearing) (e : LinkEnd Hearing). (e.device ≡ r.device) × LinkRan book.entries r.device r.link.came e.link.came e.received.dropped (option_map (λ l. l.items) e.left)) receivers ends
 
 -- a run of `HasLinked`, with the status of the last sessions of the session slots
 pub record HaveLinked {D Rd Wr G Seats Done : Type 0} (sittings : Seats → List SeatState) (many : ℕ) (does : Seats → Seats → Done → Type 0) (lets_in : D → ℕ → Option (Rd × Wr) → Type 0) (input : Rd → Input) (output : Wr → Output) (gives : G → ℕ → ℕ → Bool → Type 0)
-    (told : G → ℕ → ℕ → Type 0) (door : D) (readonly : Bool) (text : List ℕ) (places workers turns : ℕ) (receivers : List (Receiving Hearing)) (before : List Attempt) (s : Status) : Type 0 where
+    (told : G → ℕ → ℕ → Type 0) (door : D) (readonly : Bool) (text : List ℕ) (places workers turns : ℕ) (receivers : List (Receiver Hearing)) (before : List Attempt) (s : Status) : Type 0 where
   pub book : BookState
   pub ended : List SessionEnd
   pub drivers : List Bool
@@ -58,26 +58,26 @@ pub record HaveNotLinked (seats : ℕ) (devices : List (List ℕ)) (text : List 
 
 -- A run with links and other work. Or no run, or no memory to begin one.
 abbrev pub LinkedBesideTo : {D Rd Wr G Seats Done : Type 0} → (Seats → List SeatState) → ℕ → (Seats → Seats → Done → Type 0) → (D → ℕ → Option (Rd × Wr) → Type 0) → (Rd → Input) → (Wr → Output)
-    → (G → ℕ → ℕ → Bool → Type 0) → (G → ℕ → ℕ → Type 0) → D → Bool → List ℕ → ℕ → ℕ → ℕ → List (Receiving Hearing) → List Attempt → Status → Type 0
+    → (G → ℕ → ℕ → Bool → Type 0) → (G → ℕ → ℕ → Type 0) → D → Bool → List ℕ → ℕ → ℕ → ℕ → List (Receiver Hearing) → List Attempt → Status → Type 0
 LinkedBesideTo sittings many does lets_in input output gives told door readonly text places workers turns receivers before s =
     HaveLinked sittings many does lets_in input output gives told door readonly text places workers turns receivers before s
-    ⊎ HaveNotLinked (places + workers + (1 + many)) (map (λ (r : Receiving Hearing). r.device) receivers) text s ⊎ (s ≡ status.NoMemory)
+    ⊎ HaveNotLinked (places + workers + (1 + many)) (map (λ (r : Receiver Hearing). r.device) receivers) text s ⊎ (s ≡ status.NoMemory)
 
 -- a run with links and no other work
 abbrev pub LinkedRunTo : {D Rd Wr G : Type 0} → (D → ℕ → Option (Rd × Wr) → Type 0) → (Rd → Input) → (Wr → Output) → (G → ℕ → ℕ → Bool → Type 0) → (G → ℕ → ℕ → Type 0)
-    → D → Bool → List ℕ → ℕ → ℕ → ℕ → List (Receiving Hearing) → List Attempt → Status → Type 0
+    → D → Bool → List ℕ → ℕ → ℕ → ℕ → List (Receiver Hearing) → List Attempt → Status → Type 0
 LinkedRunTo lets_in input output gives told door readonly text places workers turns receivers before s =
     LinkedBesideTo (λ (_ : Unit {0}). []) 0 (λ _ _ (_ : Unit {0}). Unit {0}) lets_in input output gives told door readonly text places workers turns receivers before s
 
 -- a run with links and a page at this port, which has the last seat
 abbrev pub LinkedPageTo : {D Rd Wr G : Type 0} → (D → ℕ → Option (Rd × Wr) → Type 0) → (Rd → Input) → (Wr → Output) → (G → ℕ → ℕ → Bool → Type 0) → (G → ℕ → ℕ → Type 0)
-    → ℕ → D → Bool → List ℕ → ℕ → ℕ → ℕ → List (Receiving Hearing) → List Attempt → Status → Type 0
+    → ℕ → D → Bool → List ℕ → ℕ → ℕ → ℕ → List (Receiver Hearing) → List Attempt → Status → Type 0
 LinkedPageTo lets_in input output gives told at door readonly text places workers turns receivers before s =
     LinkedBesideTo (λ seat. seat ∷ []) 1 (λ old new (_ : Ended). IsPaged readonly at old new) lets_in input output gives told door readonly text places workers turns receivers before s
 
 -- a run of a plan with links, and with a page at this port if there is one
 abbrev pub LinkedTo : {D Rd Wr G : Type 0} → (D → ℕ → Option (Rd × Wr) → Type 0) → (Rd → Input) → (Wr → Output) → (G → ℕ → ℕ → Bool → Type 0) → (G → ℕ → ℕ → Type 0)
-    → Option ℕ → D → Planned → List ℕ → ℕ → List (Receiving Hearing) → List Attempt → Status → Type 0
+    → Option ℕ → D → Planned → List ℕ → ℕ → List (Receiver Hearing) → List Attempt → Status → Type 0
 LinkedTo lets_in input output gives told None door plan text turns receivers before s =
     LinkedRunTo lets_in input output gives told door plan.readonly text plan.sessions plan.workers turns receivers before s
 LinkedTo lets_in input output gives told (Some at) door plan text turns receivers before s =

@@ -1,7 +1,7 @@
 -- A run with a page for browsers, and its status.
 use Rattle.std.specs.Prelude.{◌≡◌, ◌⊎◌, ℕ, ◌+◌, List, [], ◌∷◌, Bool, true, false, Option, Some, None, Result}
 use Rattle.http_server.specs.Exchange.{Call, Chain}
-use Rattle.click_control.specs.Peers.{Input, Output}
+use Rattle.click_streams.specs.Peers.{Input, Output}
 use Rattle.click_control.specs.declared.port.AskFault.{AskFault}
 use Rattle.click_router.specs.declared.call.Call.{Call as Asked}
 use Rattle.click_router.specs.declared.call.Reply.{Reply}

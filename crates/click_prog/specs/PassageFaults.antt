@@ -4,8 +4,8 @@ use Rattle.click_engine.specs.Rounds.{source_of, sink_of}
 use Rattle.click_router.specs.Opened.{IsOpened, IsFirstFault}
 use Rattle.click_router.specs.State.{RouterState}
 use Rattle.click_router.specs.declared.fault.FaultKind.TheVariants as kind
-use Rattle.click_prog.specs.declared.pcap.passage.PassageFault.{PassageFault}
-use Rattle.click_prog.specs.declared.pcap.passage.PassageFault.TheVariants as none
+use Rattle.click_prog.specs.declared.pcap.capture_router.PassageFault.{PassageFault}
+use Rattle.click_prog.specs.declared.pcap.capture_router.PassageFault.TheVariants as none
 
 -- the text opens no router, because of its first fault, or for out of memory
 abbrev pub IsConfigFault : List ℕ → PassageFault → Type 0

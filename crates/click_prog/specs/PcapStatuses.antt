@@ -2,8 +2,8 @@
 use Rattle.click_cli.specs.Statuses.{config_status}
 use Rattle.click_cli.specs.declared.status.Status.{Status}
 use Rattle.click_cli.specs.declared.status.Status.TheVariants as status
-use Rattle.click_prog.specs.declared.pcap.passage.PassageFault.{PassageFault}
-use Rattle.click_prog.specs.declared.pcap.passage.PassageFault.TheVariants as none
+use Rattle.click_prog.specs.declared.pcap.capture_router.PassageFault.{PassageFault}
+use Rattle.click_prog.specs.declared.pcap.capture_router.PassageFault.TheVariants as none
 use Rattle.click_prog.specs.declared.pcap.carry_fault.CarryFault.{CarryFault}
 use Rattle.click_prog.specs.declared.pcap.carry_fault.CarryFault.TheVariants as carry_fault
 

@@ -3,8 +3,8 @@ use Rattle.std.specs.Prelude.{◌≡◌, ◌⊎◌, ℕ, ◌<◌, ◌≤◌, ◌
 use Rattle.std.specs.Io.KnownBytes.{Consumes, IsAtEnd}
 use Rattle.click_capture.specs.Captures.{Record, header_bytes, head_bytes, record_bytes, longest, IsHeaderFault}
 use Rattle.click_capture.specs.declared.header.Header.{Header}
-use Rattle.click_capture.specs.declared.record.Head.{Head}
-use Rattle.click_control.specs.Peers.{Input}
+use Rattle.click_capture.specs.declared.record.RecordHeader.{RecordHeader}
+use Rattle.click_streams.specs.Peers.{Input}
 use Rattle.click_prog.specs.declared.pcap.reading.HeaderReadFault.{HeaderReadFault}
 use Rattle.click_prog.specs.declared.pcap.reading.HeaderReadFault.TheVariants as no_header
 use Rattle.click_prog.specs.declared.pcap.reading.RecordReadFault.{RecordReadFault}
@@ -43,14 +43,14 @@ ReadsHeader had left (Err (no_header.Short count)) = (bytes : List ℕ) × TookA
 ReadsHeader had left (Err no_header.ReadFailed) = ReadFails had left
 
 -- the record of a packet whose bytes are the first ones of a piece
-abbrev pub record_in : List ℕ → Head → Record
+abbrev pub record_in : List ℕ → RecordHeader → Record
 record_in piece head = record { time = head.time; wire = head.wire; bytes = take head.kept piece }
 
 -- the bytes are the beginning of a record, of which some bytes are missing
 abbrev pub IsCut : Header → List ℕ → Type 0
 IsCut header bytes =
     ((0 < length bytes) × (length bytes < 16))
-    ⊎ ((head : Head) × (front : List ℕ) × (bytes ≡ head_bytes header.order head ++ front) × (head.kept ≤ longest header.snap) × (length front < head.kept))
+    ⊎ ((head : RecordHeader) × (front : List ℕ) × (bytes ≡ head_bytes header.order head ++ front) × (head.kept ≤ longest header.snap) × (length front < head.kept))
 
 -- The outcome of reading a record. The record was read, and its packet is at the front of the
 -- piece. Or no byte was left. Or the bytes that were left are not a whole record. Or 16 bytes were
@@ -61,11 +61,11 @@ ReadsRecord header had left piece (Ok (next.Packet head)) =
     Took had left (record_bytes header.order (record_in piece head)) × (length (take head.kept piece) ≡ head.kept) × (head.kept ≤ longest header.snap)
 ReadsRecord header had left piece (Err no_record.Cut) = (bytes : List ℕ) × TookAll had left bytes × IsCut header bytes
 ReadsRecord header had left piece (Err (no_record.TooLong fault)) =
-    (head : Head) × Took had left (head_bytes header.order head) × (head.kept ≡ fault.claimed) × (fault.most ≡ longest header.snap) × (fault.most < fault.claimed)
+    (head : RecordHeader) × Took had left (head_bytes header.order head) × (head.kept ≡ fault.claimed) × (fault.most ≡ longest header.snap) × (fault.most < fault.claimed)
 ReadsRecord header had left piece (Err no_record.ReadFailed) = ReadFails had left
 
 -- The next record can be read from these bytes alone. They contain it, or its first 16 bytes, which
 -- announce a packet that is too long.
 abbrev pub IsAtHand : Header → List ℕ → Type 0
 IsAtHand header ready =
-    (head : Head) × (take 16 ready ≡ head_bytes header.order head) × ((longest header.snap < head.kept) ⊎ (16 + head.kept ≤ length ready))
+    (head : RecordHeader) × (take 16 ready ≡ head_bytes header.order head) × ((longest header.snap < head.kept) ⊎ (16 + head.kept ≤ length ready))

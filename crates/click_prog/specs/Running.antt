@@ -1,6 +1,6 @@
 -- A run, and its status.
 use Rattle.std.specs.Prelude.{◌≡◌, ◌⊎◌, ℕ, ◌+◌, List, Bool, Option, None, false, Result}
-use Rattle.click_control.specs.Peers.{Input, Output}
+use Rattle.click_streams.specs.Peers.{Input, Output}
 use Rattle.click_control.specs.declared.serving.Ended.{Ended}
 use Rattle.click_control.specs.declared.serving.ServeFault.{ServeFault}
 use Rattle.click_desk.specs.BookState.{BookState}

@@ -1,10 +1,10 @@
 -- The run that a command line asks for, and its status.
 use Rattle.std.specs.Prelude.{ℕ, List, Bool, true, false, not, ◌&&◌, ◌||◌, ◌==◌, Option, Some, None}
-use Rattle.click_control.specs.Peers.{Input, Output}
+use Rattle.click_streams.specs.Peers.{Input, Output}
 use Rattle.click_prog.specs.Linking.{LinkedTo}
 use Rattle.click_prog.specs.Paging.{PagedRunTo}
 use Rattle.click_prog.specs.Running.{Planned, AllRunTo, LiveRunTo}
-use Rattle.click_prog.specs.declared.linking.OpenedLinks.{OpenedLinks}
+use Rattle.click_prog.specs.declared.linking.OpenLinks.{OpenLinks}
 use Rattle.click_cli.specs.declared.status.Status.{Status}
 
 -- The run is one session on standard input and output. Nothing runs in parallel, no driver either,
@@ -27,7 +27,7 @@ PlainTo lets_in input output gives told false plan text turns door s =
 
 -- a run with links and with a page at this port, if there are any
 abbrev pub ServesTo : {D Rd Wr G : Type 0} → (D → ℕ → Option (Rd × Wr) → Type 0) → (Rd → Input) → (Wr → Output) → (G → ℕ → ℕ → Bool → Type 0) → (G → ℕ → ℕ → Type 0)
-    → Option OpenedLinks → Option ℕ → Planned → List ℕ → ℕ → D → Status → Type 0
+    → Option OpenLinks → Option ℕ → Planned → List ℕ → ℕ → D → Status → Type 0
 ServesTo lets_in input output gives told (Some links) page plan text turns door s =
     LinkedTo lets_in input output gives told page door plan text turns links.sockets.links.receivers.items links.sockets.sender.tried s
 ServesTo lets_in input output gives told None (Some at) plan text turns door s = PagedRunTo lets_in input output gives told door plan text turns at s
@@ -35,6 +35,6 @@ ServesTo lets_in input output gives told None None plan text turns door s = Plai
 
 -- a run of `ServesTo` at some door of this kind
 abbrev pub ServesFrom : {D Rd Wr G : Type 0} → (D → ℕ → Option (Rd × Wr) → Type 0) → (Rd → Input) → (Wr → Output) → (G → ℕ → ℕ → Bool → Type 0) → (G → ℕ → ℕ → Type 0)
-    → Option OpenedLinks → Option ℕ → Planned → List ℕ → ℕ → Status → Type 0
+    → Option OpenLinks → Option ℕ → Planned → List ℕ → ℕ → Status → Type 0
 ServesFrom {D} {Rd} {Wr} {G} lets_in input output gives told links page plan text turns s =
     (door : D) × ServesTo lets_in input output gives told links page plan text turns door s

@@ -83,7 +83,7 @@ impl<'a> From<LinkFault<'a>> for ArgumentRefusal<'a> {
 
 /// The option that was given with `--draw`, which makes no run.
 #[derive(Clone, Copy, Debug, Drop, thiserror::Error)]
-#[error("--draw takes no {option}")]
+#[error("--draw cannot be used with {option}")]
 pub struct NotDrawn {
     option: &'static str,
 }
@@ -91,7 +91,7 @@ pub struct NotDrawn {
 /// The option that was given with `--live`, under which drivers go on without end and nothing is
 /// reported at an end.
 #[derive(Clone, Copy, Debug, Drop, thiserror::Error)]
-#[error("--live takes no {option}")]
+#[error("--live cannot be used with {option}")]
 pub struct NotLive {
     option: &'static str,
 }
@@ -105,7 +105,7 @@ pub struct OnlyLive {
 
 /// The value of an option that is not a number from `least` to `most` in decimal digits.
 #[derive(Clone, Copy, Debug, Drop, thiserror::Error)]
-#[error("{option} takes a number from {least} to {most} in decimal digits, and '{text}' is none")]
+#[error("{option}: '{text}' is not a number from {least} to {most} in decimal digits")]
 pub struct NoNumber<'a> {
     option: &'static str,
     text: &'a str,
@@ -120,73 +120,73 @@ const OPTIONS: [CommandOption; 13] = [
         id: "port",
         name: OptionName::Short('p'),
         takes: Takes::Number("PORT"),
-        help: "Listens on this port of 127.0.0.1, not on standard input (1 to 65535)",
+        help: "Serve sessions over TCP on this port of 127.0.0.1 (1 to 65535)",
     },
     CommandOption {
         id: "sessions",
         name: OptionName::Short('n'),
         takes: Takes::Number("SESSIONS"),
-        help: "How many sessions it accepts (1 to 64; 1 if not given)",
+        help: "Number of TCP sessions; with --live, at the same time (1 to 64; default 1)",
     },
     CommandOption {
         id: "workers",
         name: OptionName::Short('w'),
         takes: Takes::Number("WORKERS"),
-        help: "How many workers drive the router (0 to 16; 0 if not given)",
+        help: "Number of drivers: threads that run the router's tasks (0 to 16; default 0)",
     },
     CommandOption {
         id: "number",
         name: OptionName::Long("rounds"),
         takes: Takes::Number("N"),
-        help: "How many rounds each worker makes (0 to 1000000; 1000 if not given)",
+        help: "Number of rounds that each driver makes (0 to 1000000; default 1000)",
     },
     CommandOption {
         id: "readonly",
         name: OptionName::Long("readonly"),
         takes: Takes::Nothing,
-        help: "Denies what would write a handler",
+        help: "Refuse every write to a handler",
     },
     CommandOption {
         id: "check",
         name: OptionName::Long("check"),
         takes: Takes::Text("NAME"),
-        help: "At the end tells on standard error whether this handler can be read",
+        help: "At the end, print on standard error whether this handler can be read",
     },
     CommandOption {
         id: "book",
         name: OptionName::Long("book"),
         takes: Takes::Nothing,
-        help: "At the end writes each call with its seat and its reply to standard error, as lines that --calls --replay makes again",
+        help: "At the end, print each call with its seat and reply on standard error, for --calls --replay",
     },
     CommandOption {
         id: "live",
         name: OptionName::Long("live"),
         takes: Takes::Nothing,
-        help: "Keeps no book and takes no more memory however long it runs: with a port it serves without end, up to SESSIONS at once",
+        help: "Serve until the process ends; keep no book, so that memory does not grow with calls",
     },
     CommandOption {
         id: "device",
         name: OptionName::Long("link"),
         takes: Takes::Texts("DEVICE=HERE,THERE"),
-        help: "With --live carries the device's packets as UDP datagrams between two places, each PORT (of 127.0.0.1) or ADDRESS:PORT; up to 16 times",
+        help: "With --live: connect a device over UDP, with local address HERE and peer THERE, each PORT (of 127.0.0.1) or ADDRESS:PORT; up to 16 links",
     },
     CommandOption {
         id: "every",
         name: OptionName::Long("tell"),
         takes: Takes::Number("SECONDS"),
-        help: "With --live tells its counts on standard error each so many seconds (0 to 86400; 0, never, if not given)",
+        help: "With --live: print the counts of all links on standard error at this interval (0 to 86400; default 0, never)",
     },
     CommandOption {
         id: "front",
         name: OptionName::Long("page"),
         takes: Takes::Number("PORT"),
-        help: "Shows the router to browsers on this port of 127.0.0.1 (1 to 65535)",
+        help: "Show the router in a browser at this port of 127.0.0.1 (1 to 65535)",
     },
     CommandOption {
         id: "image",
         name: OptionName::Long("draw"),
         takes: Takes::Nothing,
-        help: "Writes a picture of the configuration to standard output, as SVG, and serves nothing",
+        help: "Write a picture of the configuration to standard output, as SVG, and exit",
     },
 ];
 
@@ -217,9 +217,11 @@ fn parsed<'a>(alloc: Global, words: &'a [String]) -> Result<ArgMatches<'a>, Erro
 {
     let command = Command::new(alloc, "click_prog")
         .version("1")
-        .about("A Click router with control sessions on standard input and output")
+        .about(
+            "Runs a Click router and serves control sessions on standard input and output, or over TCP",
+        )
         .after_help(
-            "Two more modes, where the first word names them; each has options and a --help of its own:\n--calls answers calls, one a line, on standard input and output, or makes those of a book again;\n--pcap takes a capture from standard input through the router and writes one to standard output.\n\nCommands of a session, a line each: READ NAME [TEXT], WRITE NAME [TEXT], READDATA NAME BYTES, WRITEDATA NAME BYTES,\nCHECKREAD NAME, CHECKWRITE NAME, QUIT. NAME is a handler, as c.count of the element c. docs/CONTROL.md has the replies.",
+            "Two more modes are selected by the first word; each has options and a --help of its own:\n--calls answers calls, one per line, on standard input and output, or replays a book;\n--pcap sends a capture from standard input through the router and writes one to standard output.\n\nCommands of a session, one per line: READ NAME [TEXT], WRITE NAME [TEXT], READDATA NAME BYTES,\nWRITEDATA NAME BYTES, CHECKREAD NAME, CHECKWRITE NAME, QUIT. NAME is a handler, such as c.count\nfor the count of element c. docs/CONTROL.md lists the replies.",
         );
     let matches = parse(alloc, command, &OPTIONS, words)?;
     Ok(matches)

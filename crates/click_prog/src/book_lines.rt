@@ -1,4 +1,4 @@
-//! Writing a book as lines.
+//! Writes the entries of a book, each as a line of text.
 
 ghost use Rattle.std.specs.Prelude.{◌≡◌, ◌++◌, ◌∷◌, [], true, is_some, IfOk, OnOk};
 ghost use Rattle.std.specs.Io.KnownBytes.{Appends};
@@ -33,7 +33,8 @@ fn write_entry<W: Write>(alloc: Global, to: &mut W, entry: &Entry) -> io::Result
     to.write_all(&line)
 }
 
-/// Allocates the room for the packet of a reply, if it has one.
+/// Allocates the memory for the packet in a copy of this reply. Returns `None` if the reply has no
+/// packet.
 fn room_for(alloc: Global, reply: &StoredReply) -> Result<Option<PacketRoom>, AllocError>
     ensures { IfOk result (λ room. sends_packet reply.now ≡ true → is_some room ≡ true) }
 {

@@ -14,7 +14,7 @@ pub mod replay;
 
 use crate::calls::answering::{CallsFault, answer_all, lines_of};
 use crate::calls::arguments::options_of;
-use crate::calls::replay::{ReplayOutcome, tell_replayed};
+use crate::calls::replay::{ReplayOutcome, write_outcome};
 use click_cli::{Status, refuse_arguments, refuse_configuration};
 use click_handlers::{Table, TakesTable, with_table};
 use click_router::{Handlers, Router, prepare};
@@ -96,7 +96,7 @@ fn replay_all<R: BufRead, W: Write, T: Handlers>(
     ensures told { IfOk result (λ replayed. Appends (W.contents output.old) (W.contents output.new) (replayed_line replayed)) }
 {
     let lines = lines_of(alloc, input)?;
-    tell_replayed(alloc, output, router, lines.as_slice())
+    write_outcome(alloc, output, router, lines.as_slice())
 }
 
 /// Returns the status for the outcome of a replay.

@@ -1,6 +1,6 @@
 //! Doors for sessions that do not come over TCP.
 
-use click_control::{Reading, Writing};
+use click_streams::{Reading, Writing};
 use click_workers::Door;
 use std::io::{Stdin, Stdout};
 

@@ -2,9 +2,9 @@
 
 ghost use Rattle.click_prog.specs.Drawn.{DrawsTo};
 
-use crate::status::BEFORE;
+use crate::status::MESSAGE_PREFIX;
 use click_cli::{Status, refuse_configuration};
-use click_page::picture_of;
+use click_draw::picture_of;
 use std::alloc::Global;
 use std::io::Write;
 
@@ -19,6 +19,6 @@ pub fn draw<W: Write, E: Write>(alloc: Global, to: &mut W, errors: &mut E, text:
             Ok(()) => Status::Good,
             Err(_) => Status::DeviceFailed,
         },
-        Err(fault) => refuse_configuration(alloc, errors, BEFORE, &fault),
+        Err(fault) => refuse_configuration(alloc, errors, MESSAGE_PREFIX, &fault),
     }
 }

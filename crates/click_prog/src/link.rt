@@ -29,12 +29,12 @@ pub enum LinkFault<'a> {
     #[error("out of memory")]
     NoMemory,
     /// This value is not a link.
-    #[error("--link <DEVICE=HERE,THERE> takes a device and two places, each a port of 127.0.0.1 (1 to 65535) or an IPv4 address with a port (as 10.0.0.1:5000), and '{0}' is none")]
+    #[error("--link <DEVICE=HERE,THERE>: '{0}' is not a device and two addresses, each a port of 127.0.0.1 (1 to 65535) or an IPv4 address with a port, such as 10.0.0.1:5000")]
     NoLink(&'a str),
     /// Two links have this device.
-    #[error("--link takes a device once, and '{0}' is given twice")]
+    #[error("--link: the device '{0}' is given twice; each device can have one link")]
     Twice(&'a str),
-    #[error("--link takes 16 links at most")]
+    #[error("--link: there are more than 16 links; at most 16 are allowed")]
     TooMany,
 }
 

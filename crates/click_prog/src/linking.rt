@@ -12,16 +12,16 @@ use crate::counts::{Ending, tell_counts, tell_on};
 use crate::paging::Paging;
 use crate::serving::{Arrivals, RunSetup, clients_of};
 use crate::sockets::Sockets;
-use crate::status::{BEFORE, sessions_status};
+use crate::status::{MESSAGE_PREFIX, sessions_status};
 use click_cli::{Status, refuse_configuration};
-use click_control::{Sink, Source};
 use click_desk::OpenFault;
-use click_http::PageListener;
+use click_http::HttpListener;
 use click_links::{Device, UdpIn, UdpOut};
 use click_router::Handlers;
+use click_streams::{Sink, Source};
 use click_workers::{
-    Beside, Door, Gate, LinkSetup, LinkedRan, NothingBeside, OpenGate, SessionEnd,
-    run_linked_beside,
+    Companion, Door, Gate, LinkSetup, LinkedRan, NoCompanion, OpenGate, SessionEnd,
+    run_linked_with_companion,
 };
 use std::sync::Wait;
 use std::thread;
@@ -31,7 +31,7 @@ use std::thread::Threads;
 ///
 /// If the interval is 0, counts are printed at the end only.
 #[derive(Drop)]
-pub struct OpenedLinks {
+pub struct OpenLinks {
     pub sockets: Sockets,
     pub tell: u64,
 }
@@ -48,40 +48,32 @@ pub fn serve_linked<T: Handlers + Send + Drop, D: Door, R: Threads + Wait + Sync
     table: T,
     setup: RunSetup,
     arrivals: Arrivals<D, OpenGate>,
-    opened_links: OpenedLinks,
-    page: Option<PageListener>,
+    opened_links: OpenLinks,
+    page: Option<HttpListener>,
 ) -> Status
     requires { 0 < arrivals.turns }
     ensures { LinkedTo D.lets_in D.Reader.input D.Writer.output ⟦<OpenGate as Gate>⟧.gives ⟦<OpenGate as Gate>⟧.told (option_map (λ p. p.port) page) arrivals.entry.door.now setup.entry.plan setup.entry.text.now
         arrivals.entry.turns opened_links.sockets.links.receivers.items opened_links.sockets.sender.tried result }
 {
     match page {
-        None => serve_beside(
-            rt,
-            host,
-            table,
-            setup,
-            arrivals,
-            opened_links,
-            NothingBeside,
-        ),
-        Some(page_listener) => {
+        None => serve_with_companion(rt, host, table, setup, arrivals, opened_links, NoCompanion),
+        Some(http_listener) => {
             let paging = Paging {
-                page_listener,
+                http_listener,
                 clock: host,
                 readonly: setup.plan.readonly,
             };
-            serve_beside(rt, host, table, setup, arrivals, opened_links, paging)
+            serve_with_companion(rt, host, table, setup, arrivals, opened_links, paging)
         }
     }
 }
 
 /// Does what `serve_linked` does, with any work in parallel with the links.
-fn serve_beside<
+fn serve_with_companion<
     T: Handlers + Send + Drop,
     D: Door,
     G: Gate,
-    B: Beside<T>,
+    B: Companion<T>,
     R: Threads + Wait + Sync,
 >(
     rt: &R,
@@ -89,7 +81,7 @@ fn serve_beside<
     table: T,
     setup: RunSetup,
     arrivals: Arrivals<D, G>,
-    opened_links: OpenedLinks,
+    opened_links: OpenLinks,
     beside: B,
 ) -> Status
     requires many { setup.plan.sessions + setup.plan.workers + (1 + B.Seats.many) ≤ 256 }
@@ -123,7 +115,7 @@ fn serve_beside<
                 links,
                 sender,
             };
-            let ran = run_linked_beside(rt, alloc, table, text, clients, wiring, beside);
+            let ran = run_linked_with_companion(rt, alloc, table, text, clients, wiring, beside);
             ending.set();
             ran
         },
@@ -153,7 +145,7 @@ fn refuse(host: &HostRuntime, fault: &OpenFault) -> Status
 {
     match fault {
         OpenFault::Config(fault) => {
-            refuse_configuration(host.alloc(), &mut host.stderr(), BEFORE, fault)
+            refuse_configuration(host.alloc(), &mut host.stderr(), MESSAGE_PREFIX, fault)
         }
         OpenFault::NoMemory => Status::NoMemory,
         OpenFault::SeatCount

@@ -29,7 +29,7 @@ use click_cli::{Status, refuse_arguments, words_of};
 use click_handlers::with_table;
 use drawing::draw;
 use link::{Link, LinkFault};
-use linking::OpenedLinks;
+use linking::OpenLinks;
 use mode::{Mode, mode_of};
 use pcap::run_pcap;
 use runs::{Serving, SessionSource, config_fault_status};
@@ -129,12 +129,12 @@ fn opened_links<'a, R: Net>(
     alloc: Global,
     links: &[Link<'a>],
     tell: u64,
-) -> Result<Option<OpenedLinks>, SocketFault<'a>> {
+) -> Result<Option<OpenLinks>, SocketFault<'a>> {
     if links.is_empty() {
         return Ok(None);
     }
     let sockets = open_sockets(rt, alloc, links)?;
-    Ok(Some(OpenedLinks { sockets, tell }))
+    Ok(Some(OpenLinks { sockets, tell }))
 }
 
 /// Prints the reason why there are no links. If the configuration has a fault, prints that instead.

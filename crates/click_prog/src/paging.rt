@@ -5,12 +5,15 @@ ghost use Rattle.click_prog.specs.Paging.{IsPagedOver, PagedRunTo, room_of, roun
 
 use crate::serving::{Arrivals, RunSetup, clients_of, conclude, refuse};
 use click_cli::Status;
-use click_control::{Port, Sink, Source};
+use click_control::Port;
 use click_desk::{Desk, Seat};
-use click_http::{Ended, PageListener, serve_until};
+use click_http::{Ended, HttpListener, serve_until};
 use click_page::Page;
 use click_router::Handlers;
-use click_workers::{Beside, BesideRan, Door, Gate, OpenGate, Opening, SeatPort, run_beside};
+use click_streams::{Sink, Source};
+use click_workers::{
+    Companion, CompanionRan, Door, Gate, OpenGate, Opening, SeatPort, run_with_companion,
+};
 use std::alloc::Global;
 use std::sync::Wait;
 use std::sync::atomic::AtomicBool;
@@ -21,19 +24,19 @@ use std::time::Clock;
 /// read.
 #[derive(Drop)]
 pub struct Paging<'a, C> {
-    pub page_listener: PageListener,
+    pub http_listener: HttpListener,
     pub clock: &'a C,
     pub readonly: bool,
 }
 
-impl<'a, T: Handlers + Send + Drop, C: Clock + Sync> Beside<T> for Paging<'a, C> {
+impl<'a, T: Handlers + Send + Drop, C: Clock + Sync> Companion<T> for Paging<'a, C> {
     ghost use Rattle.click_prog.specs.Paging.{IsPaged};
 
     type Seats = Seat<T>;
 
     type Done = Ended;
 
-    ghost does = { λ paging old new _. IsPaged paging.readonly paging.page_listener.port old new };
+    ghost does = { λ paging old new _. IsPaged paging.readonly paging.http_listener.port old new };
 
     fn work<R: Threads + Wait + Sync>(
         self,
@@ -44,12 +47,12 @@ impl<'a, T: Handlers + Send + Drop, C: Clock + Sync> Beside<T> for Paging<'a, C>
         stop: &AtomicBool,
     ) -> (Ended, Seat<T>) {
         let Paging {
-            page_listener,
+            http_listener,
             clock,
             readonly,
         } = self;
         let port = SeatPort::new(rt, desk, seats);
-        let (ended, port) = serve_page(rt, clock, alloc, page_listener, port, readonly, stop);
+        let (ended, port) = serve_page(rt, clock, alloc, http_listener, port, readonly, stop);
         (ended, port.into_seat())
     }
 }
@@ -59,27 +62,27 @@ fn serve_page<P: Port, C: Clock, R: Wait>(
     rt: &R,
     clock: &C,
     alloc: Global,
-    page_listener: PageListener,
+    http_listener: HttpListener,
     port: P,
     readonly: bool,
     stop: &AtomicBool,
 ) -> (Ended, P)
-    ensures { IsPagedOver P.asks readonly page_listener.port port result.1 }
+    ensures { IsPagedOver P.asks readonly http_listener.port port result.1 }
 {
-    let at = page_listener.port();
+    let at = http_listener.port();
     let mut page = Page::new(alloc, port, readonly, at);
-    let ended = serve_until(rt, clock, alloc, page_listener, &mut page, stop);
+    let ended = serve_until(rt, clock, alloc, http_listener, &mut page, stop);
     (ended, page.into_port())
 }
 
 /// The maximum number of entries of the history of a run that ends.
-const ROOM: usize = 1_048_576;
+const MAX_ENTRIES: usize = 1_048_576;
 
 /// Returns the room of a run's book, or `None` for a live router, which keeps no book.
 fn room_of(live: bool) -> Option<usize>
     ensures { result ≡ room_of live }
 {
-    if live { None } else { Some(ROOM) }
+    if live { None } else { Some(MAX_ENTRIES) }
 }
 
 /// Returns the number of rounds of each driver, or `None` for a live router, whose drivers go on.
@@ -99,10 +102,10 @@ pub fn serve_paged<T: Handlers + Send + Drop, D: Door, R: Threads + Wait + Sync>
     table: T,
     setup: RunSetup,
     arrivals: Arrivals<D, OpenGate>,
-    page_listener: PageListener,
+    http_listener: HttpListener,
 ) -> Status
     requires { 0 < arrivals.turns }
-    ensures { PagedRunTo D.lets_in D.Reader.input D.Writer.output ⟦<OpenGate as Gate>⟧.gives ⟦<OpenGate as Gate>⟧.told arrivals.entry.door.now setup.entry.plan setup.entry.text.now arrivals.entry.turns page_listener.port result }
+    ensures { PagedRunTo D.lets_in D.Reader.input D.Writer.output ⟦<OpenGate as Gate>⟧.gives ⟦<OpenGate as Gate>⟧.told arrivals.entry.door.now setup.entry.plan setup.entry.text.now arrivals.entry.turns http_listener.port result }
 {
     let RunSetup { text, plan, end } = setup;
     let opening = Opening {
@@ -111,14 +114,14 @@ pub fn serve_paged<T: Handlers + Send + Drop, D: Door, R: Threads + Wait + Sync>
         check: end.check,
     };
     let paging = Paging {
-        page_listener,
+        http_listener,
         clock: host,
         readonly: plan.readonly,
     };
     let (alloc, rounds) = (host.alloc(), rounds_of(plan.live, plan.rounds));
     let clients = clients_of(plan, arrivals);
-    match run_beside(rt, alloc, table, opening, clients, rounds, paging) {
-        Ok(BesideRan { all, done: _ }) => conclude(host, end, all),
+    match run_with_companion(rt, alloc, table, opening, clients, rounds, paging) {
+        Ok(CompanionRan { all, done: _ }) => conclude(host, end, all),
         Err(fault) => refuse(host, &fault),
     }
 }

@@ -6,25 +6,24 @@ ghost use Rattle.click_prog.specs.PcapStatuses.{passage_status};
 
 pub mod arguments;
 pub mod buffered;
+pub mod capture_router;
 pub mod carry_fault;
 pub mod carrying;
 pub mod laws;
-pub mod passage;
 pub mod reading;
 pub mod ready;
 pub mod status;
 pub mod tally;
-pub mod writing;
 
 use crate::pcap::arguments::options_of;
-use crate::pcap::buffered::{Buffered, ROOM};
+use crate::pcap::buffered::{BUFFER_BYTES, Buffered};
+use crate::pcap::capture_router::{CaptureRouter, PassageFault};
 use crate::pcap::carry_fault::CarryFault;
 use crate::pcap::carrying::carry;
-use crate::pcap::passage::{Passage, PassageFault};
 use crate::pcap::status::carry_status;
 use crate::pcap::tally::Tally;
 use click_cli::{Status, refuse_arguments, refuse_configuration};
-use click_control::{Reading, Writing};
+use click_streams::{Reading, Writing};
 use std::io::{BufReader, Write};
 
 /// Runs the mode with the words of its command line, of which the first is `--pcap`.
@@ -43,7 +42,7 @@ pub fn run_pcap(rt: &HostRuntime, words: &[String]) -> Status {
 
 /// Opens a router of the text, and sends the packets through it.
 fn run(rt: &HostRuntime, text: &[u8], source: &[u8], sink: &[u8]) -> Status {
-    match Passage::open(rt.alloc(), text, source, sink) {
+    match CaptureRouter::open(rt.alloc(), text, source, sink) {
         Ok(passage) => match carried(rt, passage) {
             Ok(()) => Status::Good,
             Err(carry_fault) => carry_status(carry_fault),
@@ -53,7 +52,7 @@ fn run(rt: &HostRuntime, text: &[u8], source: &[u8], sink: &[u8]) -> Status {
 }
 
 /// Sends the packets through the router. Prints the fault, if the run stops early, and the counts.
-fn carried(rt: &HostRuntime, mut passage: Passage) -> Result<(), CarryFault> {
+fn carried(rt: &HostRuntime, mut passage: CaptureRouter) -> Result<(), CarryFault> {
     let mut tally = Tally::default();
     let ended = carry_standard(rt, &mut passage, &mut tally);
     if let Err(carry_fault) = ended {
@@ -66,11 +65,11 @@ fn carried(rt: &HostRuntime, mut passage: Passage) -> Result<(), CarryFault> {
 /// Sends the packets of standard input through the router to standard output.
 fn carry_standard(
     rt: &HostRuntime,
-    passage: &mut Passage,
+    passage: &mut CaptureRouter,
     tally: &mut Tally,
 ) -> Result<(), CarryFault> {
     let alloc = rt.alloc();
-    let Ok(input) = BufReader::with_capacity(alloc, ROOM, rt.stdin()) else {
+    let Ok(input) = BufReader::with_capacity(alloc, BUFFER_BYTES, rt.stdin()) else {
         return Err(CarryFault::NoMemory);
     };
     let Ok(mut writer) = Buffered::new(alloc, Writing::new(rt.stdout())) else {
@@ -105,17 +104,19 @@ fn refuse(rt: &HostRuntime, why: &PassageFault) -> Status
         PassageFault::Config(fault) => {
             refuse_configuration(rt.alloc(), &mut rt.stderr(), b"", fault)
         }
-        PassageFault::NoSource => refuse_device(rt, "source of the device --in"),
-        PassageFault::NoSink => refuse_device(rt, "sink of the device --out"),
+        PassageFault::NoSource => refuse_device(rt, "--in", "FromDevice"),
+        PassageFault::NoSink => refuse_device(rt, "--out", "ToDevice"),
         PassageFault::NoMemory => Status::NoMemory,
     }
 }
 
-/// Prints which source or sink the router lacks.
-fn refuse_device(rt: &HostRuntime, lacks: &str) -> Status
+/// Prints which option names a device for which the router has no element of this class.
+fn refuse_device(rt: &HostRuntime, option: &str, class: &str) -> Status
     ensures { result ≡ Status.Faulty }
 {
     // A failed write does not change the status.
-    let _ = eprintln!(rt; "error: the configuration has no {lacks}");
+    let _ = eprintln!(rt;
+        "error: {option} <DEVICE>: the configuration has no {class} for this device"
+    );
     Status::Faulty
 }

@@ -6,16 +6,16 @@ ghost use Rattle.click_prog.specs.Running.{RunsAlone};
 ghost use Rattle.click_prog.specs.Serving.{ServesTo, ServesFrom, is_alone, turns_of};
 
 use crate::doors::{ClosedDoor, Standard};
-use crate::linking::{OpenedLinks, serve_linked};
+use crate::linking::{OpenLinks, serve_linked};
 use crate::paging::serve_paged;
 use crate::serving::{Arrivals, Plan, RunSetup, serve_all, serve_live, session};
-use crate::status::BEFORE;
+use crate::status::MESSAGE_PREFIX;
 use click_cli::{Status, refuse_configuration};
-use click_control::{Reading, Sink, Source, Writing};
 use click_desk::BoxedTable;
 use click_handlers::{Table, TakesTable};
-use click_http::{PageListener, open_page_listener};
+use click_http::{HttpListener, open_http_listener};
 use click_router::{Handlers, prepare};
+use click_streams::{Reading, Sink, Source, Writing};
 use click_workers::{Door, Gate, Listening, OpenGate};
 use std::io::{self, Stdin, Stdout};
 use std::net::{TcpListener, TcpStream};
@@ -39,7 +39,7 @@ pub struct Serving<'a> {
     pub host: &'a HostRuntime,
     pub setup: RunSetup<'a>,
     pub session_source: SessionSource,
-    pub links: Option<OpenedLinks>,
+    pub links: Option<OpenLinks>,
     /// The port of 127.0.0.1 at which browsers are shown a page, if there is a page.
     pub page: Option<u16>,
 }
@@ -60,8 +60,8 @@ impl<'a> Serving<'a> {
         } = self;
         let page = match page {
             None => None,
-            Some(port) => match open_page_listener(host, host.alloc(), port) {
-                Ok(page_listener) => Some(page_listener),
+            Some(port) => match open_http_listener(host, host.alloc(), port) {
+                Ok(http_listener) => Some(http_listener),
                 Err(fault) => return refuse_page(host, setup.text, port, &fault),
             },
         };
@@ -78,7 +78,7 @@ fn refuse_page(host: &HostRuntime, text: &[u8], port: u16, fault: &io::Error) ->
         return Status::NoMemory;
     }
     // A failed write does not change the status.
-    let _ = eprintln!(host; "click_prog: the page cannot have 127.0.0.1:{port}: {fault}");
+    let _ = eprintln!(host; "click_prog: page: cannot listen on 127.0.0.1:{port}: {fault}");
     Status::DeviceFailed
 }
 
@@ -89,7 +89,7 @@ pub fn config_fault_status(host: &HostRuntime, text: &[u8]) -> Option<Status> {
         Ok(_) => None,
         Err(fault) => {
             let mut errors = host.stderr();
-            Some(refuse_configuration(alloc, &mut errors, BEFORE, &fault))
+            Some(refuse_configuration(alloc, &mut errors, MESSAGE_PREFIX, &fault))
         }
     }
 }
@@ -138,8 +138,8 @@ fn serve_source<T: Handlers + Send + Drop, R: Threads + Wait + Sync>(
     table: T,
     setup: RunSetup,
     session_source: SessionSource,
-    links: Option<OpenedLinks>,
-    page: Option<PageListener>,
+    links: Option<OpenLinks>,
+    page: Option<HttpListener>,
 ) -> Status
     ensures alone { session_source ≡ SessionSource.Standard → is_alone (is_some links || is_some page) setup.entry.plan ≡ true → RunsAlone setup.entry.text.now setup.entry.plan.readonly result }
     ensures standard { session_source ≡ SessionSource.Standard → is_alone (is_some links || is_some page) setup.entry.plan ≡ false → ServesFrom ⟦<Standard as Door>⟧.lets_in ⟦<Reading<Stdin> as Source>⟧.input
@@ -180,8 +180,8 @@ fn serve_at<T: Handlers + Send + Drop, D: Door, R: Threads + Wait + Sync>(
     table: T,
     setup: RunSetup,
     arrivals: Arrivals<D, OpenGate>,
-    links: Option<OpenedLinks>,
-    page: Option<PageListener>,
+    links: Option<OpenLinks>,
+    page: Option<HttpListener>,
 ) -> Status
     requires { 0 < arrivals.turns }
     ensures { ServesTo D.lets_in D.Reader.input D.Writer.output ⟦<OpenGate as Gate>⟧.gives ⟦<OpenGate as Gate>⟧.told links (option_map (λ p. p.port) page) setup.entry.plan setup.entry.text.now
@@ -190,7 +190,7 @@ fn serve_at<T: Handlers + Send + Drop, D: Door, R: Threads + Wait + Sync>(
     match links {
         Some(opened_links) => serve_linked(rt, host, table, setup, arrivals, opened_links, page),
         None => match page {
-            Some(page_listener) => serve_paged(rt, host, table, setup, arrivals, page_listener),
+            Some(http_listener) => serve_paged(rt, host, table, setup, arrivals, http_listener),
             None if setup.plan.live => serve_live(rt, host, table, setup, arrivals),
             None => serve_all(rt, host, table, setup, arrivals.door),
         },

@@ -8,11 +8,11 @@ ghost use Rattle.click_prog.specs.Statuses.{fault_status, sessions_status, check
 
 use crate::arguments::Options;
 use crate::book_lines::write_book;
-use crate::status::{BEFORE, end_status, sessions_status};
+use crate::status::{MESSAGE_PREFIX, end_status, sessions_status};
 use click_cli::{Status, refuse_configuration};
-use click_control::{InputDevice, OutputDevice, Reading, Sink, Source, Writing};
 use click_desk::Entry;
 use click_router::{Check, Handlers};
+use click_streams::{InputDevice, OutputDevice, Reading, Sink, Source, Writing};
 use click_workers::{
     AllRan, Clients, Door, Gate, OpenGate, Ran, RunFault, run, run_live, run_workers,
 };
@@ -271,7 +271,7 @@ pub(crate) fn refuse(host: &HostRuntime, fault: &RunFault) -> Status
 {
     match fault {
         RunFault::Config(fault) => {
-            refuse_configuration(host.alloc(), &mut host.stderr(), BEFORE, fault)
+            refuse_configuration(host.alloc(), &mut host.stderr(), MESSAGE_PREFIX, fault)
         }
         RunFault::NoMemory => Status::NoMemory,
         RunFault::Close(_) | RunFault::NoView => Status::Refused,

@@ -13,7 +13,7 @@ use std::net::{Net, SocketAddr, SocketAddrV4};
 
 /// The maximum time that a receiver blocks before it checks whether it has to stop, in
 /// milliseconds.
-const WAIT: u64 = 100;
+const RECEIVE_TIMEOUT_MS: u64 = 100;
 
 /// The receivers of all links with their sockets, and the sending side of all links.
 #[derive(Drop)]
@@ -28,7 +28,7 @@ pub enum SocketFault<'a> {
     #[error("out of memory")]
     NoMemory,
     /// The local address of this link cannot be used.
-    #[error("link {device} cannot have {here}: {error}")]
+    #[error("link {device}: cannot open a socket at {here}: {error}")]
     Place {
         device: &'a str,
         here: SocketAddrV4,
@@ -84,7 +84,7 @@ fn open_socket<'a, R: Net>(
 {
     let device = Sequence::copy_of(alloc, link.device.as_bytes())?;
     let (here, there) = (SocketAddr::V4(link.here), SocketAddr::V4(link.there));
-    match open_udp(rt, alloc, device, here, there, WAIT) {
+    match open_udp(rt, alloc, device, here, there, RECEIVE_TIMEOUT_MS) {
         Ok(ends) => Ok(ends),
         Err(error) if error.kind() == ErrorKind::OutOfMemory => Err(SocketFault::NoMemory),
         Err(error) => Err(SocketFault::Place {

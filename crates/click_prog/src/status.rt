@@ -9,7 +9,7 @@ use click_control::{Ended, ServeFault};
 use click_workers::SessionEnd;
 
 /// The prefix of the program's lines on standard error.
-pub const BEFORE: &[u8] = b"click_prog: ";
+pub const MESSAGE_PREFIX: &[u8] = b"click_prog: ";
 
 /// Returns the status of a session.
 pub fn end_status(ended: &Result<Ended, ServeFault>) -> Status

@@ -9,7 +9,7 @@ use std::alloc::{AllocError, Global};
 use thiserror::Error;
 
 /// The maximum number of places of a feed.
-const MOST_PLACES: usize = 4096;
+const MAX_PLACES: usize = 4096;
 
 /// The reason for which a feed was not opened.
 #[derive(Clone, Copy, Debug, PartialEq, Eq, Error)]
@@ -41,7 +41,7 @@ pub fn feed(alloc: Global, device: &[u8], places: usize) -> Result<(Feed, Inlet)
     ensures empty { IfOk result (λ r. (r.0.put ≡ []) × (r.0.places ≡ places)) }
     ensures places { (result ≡ Err FeedFault.PlaceCount) ↔ ((places ≡ 0) ⊎ (4096 < places)) }
 {
-    if places == 0 || places > MOST_PLACES {
+    if places == 0 || places > MAX_PLACES {
         return Err(FeedFault::PlaceCount);
     }
     match ring(alloc, device, places) {

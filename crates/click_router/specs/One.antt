@@ -24,8 +24,8 @@ use Rattle.click_router.specs.declared.call.Call.{Call}
 use Rattle.click_router.specs.declared.call.Call.TheVariants as call
 use Rattle.click_router.specs.declared.check.Check.{Check}
 use Rattle.click_router.specs.declared.check.Check.TheVariants as answer
-use Rattle.click_router.specs.declared.check.Direction.{Direction}
-use Rattle.click_router.specs.declared.check.Direction.TheVariants as direction
+use Rattle.click_router.specs.declared.check.Access.{Access}
+use Rattle.click_router.specs.declared.check.Access.TheVariants as direction
 use Rattle.click_router.specs.declared.call.Refusal.{Refusal}
 use Rattle.click_router.specs.declared.call.Refusal.TheVariants as refusal
 use Rattle.click_router.specs.declared.call.Reply.{Reply}
@@ -91,17 +91,17 @@ listing_of s = record { names = names_of s.flat.elements; classes = map (λ (e :
 abbrev pub class_named : Listing → List ℕ → Option Class
 class_named l name = option_and_then (slice_get l.classes) (position (bytes_eq name) l.names)
 
-abbrev pub other_way : Direction → Direction
+abbrev pub other_way : Access → Access
 other_way direction.Read = direction.Write
 other_way direction.Write = direction.Read
 
 -- whether elements of a class have a handler that can be read, or written
-abbrev pub has_handler : Direction → Class → List ℕ → Bool
+abbrev pub has_handler : Access → Class → List ℕ → Bool
 has_handler direction.Read class handler = has_read class handler
 has_handler direction.Write class handler = has_write class handler
 
 -- the global handlers that can be read, and the one that can be written
-abbrev pub has_own : Direction → List ℕ → Bool
+abbrev pub has_own : Access → List ℕ → Bool
 has_own direction.Read name = is_global name
 has_own direction.Write name = is_hotconfig name
 
@@ -109,12 +109,12 @@ has_own direction.Write name = is_hotconfig name
 abbrev pub check_of : Bool → Bool → Check
 check_of has has_other = if has then answer.Yes else if has_other then answer.WrongWay else answer.NoHandler
 
-abbrev pub check_element : Option Class → Direction → List ℕ → Check
+abbrev pub check_element : Option Class → Access → List ℕ → Check
 check_element (Some class) way handler = check_of (has_handler way class handler) (has_handler (other_way way) class handler)
 check_element None way handler = answer.NoElement
 
 -- the answer of a check whether a handler can be read, or written
-abbrev pub check : Listing → Direction → List ℕ → Check
+abbrev pub check : Listing → Access → List ℕ → Check
 check l way name =
     if list_any is_dot name then check_element (class_named l (before name)) way (after name)
     else check_of (has_own way name) (has_own (other_way way) name)

@@ -12,7 +12,7 @@ use click_handlers::{has_read, has_write};
 
 /// The direction of a handler call.
 #[derive(Clone, Copy, Debug, PartialEq, Eq)]
-pub enum Direction {
+pub enum Access {
     Read,
     Write,
 }
@@ -45,26 +45,26 @@ fn check_of(has: bool, has_other: bool) -> Check
 }
 
 /// Checks whether a global handler can be read or written.
-pub(crate) fn check_own(way: Direction, name: &[u8]) -> Check
+pub(crate) fn check_own(way: Access, name: &[u8]) -> Check
     ensures { result ≡ spec.check_of (spec.has_own way name.now) (spec.has_own (spec.other_way way) name.now) }
 {
     match way {
-        Direction::Read => check_of(has_global(name), is_hotconfig(name)),
-        Direction::Write => check_of(is_hotconfig(name), has_global(name)),
+        Access::Read => check_of(has_global(name), is_hotconfig(name)),
+        Access::Write => check_of(is_hotconfig(name), has_global(name)),
     }
 }
 
 /// Checks whether a handler of an element with this class can be read or written. `None` stands for
 /// no element.
-pub(crate) fn check_element(class: Option<Class>, way: Direction, handler: &[u8]) -> Check
+pub(crate) fn check_element(class: Option<Class>, way: Access, handler: &[u8]) -> Check
     ensures { result ≡ spec.check_element class way handler.now }
 {
     let Some(class) = class else {
         return Check::NoElement;
     };
     match way {
-        Direction::Read => check_of(has_read(class, handler), has_write(class, handler)),
-        Direction::Write => check_of(has_write(class, handler), has_read(class, handler)),
+        Access::Read => check_of(has_read(class, handler), has_write(class, handler)),
+        Access::Write => check_of(has_write(class, handler), has_read(class, handler)),
     }
 }
 
@@ -74,8 +74,8 @@ pub(crate) fn check_reply(check: Check) -> StoredReply
 {
     match check {
         Check::Yes => StoredReply::of(CompactReply::Done),
-        Check::NoElement => StoredReply::refused(Refusal::NoElement),
-        Check::NoHandler => StoredReply::refused(Refusal::NoHandler),
-        Check::WrongWay => StoredReply::refused(Refusal::WrongWay),
+        Check::NoElement => StoredReply::refusal(Refusal::NoElement),
+        Check::NoHandler => StoredReply::refusal(Refusal::NoHandler),
+        Check::WrongWay => StoredReply::refusal(Refusal::WrongWay),
     }
 }

@@ -9,7 +9,7 @@ ghost use Rattle.click_handlers.specs.Writes.{write_value};
 ghost use Rattle.click_router.specs.One as spec;
 
 use crate::call::{Call, Refusal, Reply, StepFault, refusal_of};
-use crate::check::{Direction, check_reply};
+use crate::check::{Access, check_reply};
 use crate::globals::{has_global, is_hotconfig};
 use crate::running::RunningConfig;
 use crate::stored_reply::{CompactReply, StoredReply};
@@ -27,8 +27,8 @@ pub trait Handlers {
     ghost use Rattle.std.specs.Prelude.{◌≡◌, true, is_some, IfOk, IfErr, MatchResult};
     ghost use Rattle.click_router.specs.One.{Answers, takes_memory, holds_memory, is_transmit};
 
-    /// Answers one call. Its contract is that of `Router::record`.
-    fn record(
+    /// Answers one call. Its contract is that of `Router::step_stored`.
+    fn step_stored(
         &self,
         running: &mut RunningConfig,
         alloc: Global,
@@ -48,7 +48,7 @@ fn read_reply(answer: Result<Vec<u8>, HandlerFault>) -> Result<StoredReply, Step
     match answer {
         Ok(value) => Ok(StoredReply::of(CompactReply::Value(Sequence::of(value)))),
         Err(HandlerFault::NoMemory) => Err(StepFault::NoMemory),
-        Err(fault) => Ok(StoredReply::refused(Refusal::Handler(fault))),
+        Err(fault) => Ok(StoredReply::refusal(Refusal::Handler(fault))),
     }
 }
 
@@ -78,7 +78,7 @@ fn read_element(
     let class = element.state.class();
     match table.read(class, handler) {
         Some(row) => read_row(row, element, alloc, text),
-        None => Ok(StoredReply::refused(refusal_of(table.write(class, handler).is_some()))),
+        None => Ok(StoredReply::refusal(refusal_of(table.write(class, handler).is_some()))),
     }
 }
 
@@ -97,7 +97,7 @@ fn read(
     };
     match running.find(element) {
         Some((_, found)) => read_element(table, found, alloc, handler, text),
-        None => Ok(StoredReply::refused(Refusal::NoElement)),
+        None => Ok(StoredReply::refusal(Refusal::NoElement)),
     }
 }
 
@@ -108,7 +108,7 @@ fn write_reply(fault: Option<HandlerFault>) -> Result<StoredReply, StepFault>
     match fault {
         None => Ok(StoredReply::of(CompactReply::Done)),
         Some(HandlerFault::NoMemory) => Err(StepFault::NoMemory),
-        Some(fault) => Ok(StoredReply::refused(Refusal::Handler(fault))),
+        Some(fault) => Ok(StoredReply::refusal(Refusal::Handler(fault))),
     }
 }
 
@@ -159,7 +159,7 @@ fn write_element(
     let class = plant.element(at).state.class();
     match table.write(class, handler) {
         Some(row) => write_row(row, plant, at, alloc, text),
-        None => Ok(StoredReply::refused(refusal_of(table.read(class, handler).is_some()))),
+        None => Ok(StoredReply::refusal(refusal_of(table.read(class, handler).is_some()))),
     }
 }
 
@@ -175,16 +175,16 @@ fn write(
     ensures memory { IfErr result (λ _. spec.writes_room name.now ≡ true) }
 {
     let Some((element, handler)) = split(name) else {
-        return Ok(StoredReply::refused(refusal_of(has_global(name))));
+        return Ok(StoredReply::refusal(refusal_of(has_global(name))));
     };
     let Some((at, _)) = running.find(element) else {
-        return Ok(StoredReply::refused(Refusal::NoElement));
+        return Ok(StoredReply::refusal(Refusal::NoElement));
     };
     write_element(table, &mut running.plant, at, alloc, handler, text)
 }
 
 impl Handlers for Table {
-    fn record(
+    fn step_stored(
         &self,
         running: &mut RunningConfig,
         alloc: Global,
@@ -202,17 +202,17 @@ impl Handlers for Table {
                 write(self, running, alloc, name.as_slice(), text.as_slice())
             }
             Call::CheckRead { name } => {
-                Ok(check_reply(running.check(Direction::Read, name.as_slice())))
+                Ok(check_reply(running.check(Access::Read, name.as_slice())))
             }
             Call::CheckWrite { name } => {
-                Ok(check_reply(running.check(Direction::Write, name.as_slice())))
+                Ok(check_reply(running.check(Access::Write, name.as_slice())))
             }
             Call::Swap { text } => running.swap(alloc, text.as_slice()),
             Call::Arrive { device, packet } => Ok(running.arrive(device.as_slice(), packet)),
             Call::Poll { device, taken } => Ok(running.poll(device.as_slice(), taken.as_slice())),
-            Call::Round => Ok(StoredReply::worked(running.round())),
+            Call::Round => Ok(StoredReply::round_done(running.round())),
             Call::Transmit { device } => match room {
-                Some(room) => Ok(running.transmit_stored(device.as_slice(), room)),
+                Some(room) => Ok(running.transmit_compact(device.as_slice(), room)),
                 None => unreachable!(),
             },
         }

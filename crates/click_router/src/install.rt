@@ -5,7 +5,7 @@ ghost use Rattle.std.specs.Str.{bytes_eq};
 ghost use Rattle.click_classes.specs.State.{class};
 ghost use Rattle.click_router.specs.One.{class_named};
 
-use crate::check::{Check, Direction, check_element, check_own};
+use crate::check::{Access, Check, check_element, check_own};
 use crate::opening::Prepared;
 use crate::running::RunningConfig;
 use click_base::sequence::Sequence;
@@ -94,7 +94,7 @@ impl ElementIndex {
     }
 
     /// Checks whether a handler can be read or written.
-    fn check(&self, way: Direction, name: &[u8]) -> Check
+    fn check(&self, way: Access, name: &[u8]) -> Check
         ensures { result ≡ spec.check self.now way name.now }
     {
         match split(name) {
@@ -157,7 +157,7 @@ impl Install {
     }
 
     /// Checks whether a handler can be read or written in the configuration. Allocates nothing.
-    pub fn check(&self, way: Direction, name: &[u8]) -> Check
+    pub fn check(&self, way: Access, name: &[u8]) -> Check
         ensures { (l : Listing) × IsListing self.now l × (result ≡ check l way name.now) }
     {
         self.listed.check(way, name)

@@ -14,7 +14,7 @@ ghost use Rattle.click_router.specs.declared.call.Refusal.TheVariants as refusal
 ghost use Rattle.click_router.specs.declared.call.Reply.{Reply};
 ghost use Rattle.click_router.specs.declared.call.Reply.TheVariants as reply;
 ghost use Rattle.click_router.specs.InOrder.{IsInOrder};
-ghost use Rattle.click_router.specs.declared.check.Direction.TheVariants as direction;
+ghost use Rattle.click_router.specs.declared.check.Access.TheVariants as direction;
 ghost use Rattle.click_router.specs.Foretelling.{Foretells};
 ghost use Rattle.click_base.specs.Dotted.{is_dot};
 ghost use Rattle.click_router.specs.One.{Answers, check, listing_of, swap_text, read, before, place_of, with_element};

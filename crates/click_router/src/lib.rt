@@ -14,7 +14,7 @@ mod running;
 mod stored_reply;
 
 pub use call::{Call, Refusal, Reply, StepFault};
-pub use check::{Check, Direction};
+pub use check::{Access, Check};
 pub use fault::{ConfigFault, FaultKind, FaultPlace, Side};
 pub use handling::Handlers;
 pub use install::Install;

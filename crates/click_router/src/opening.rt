@@ -16,7 +16,7 @@ use click_engine::Plant;
 use click_expand::{ExpandFault, FaultKind as ExpandKind, Flat, FlatElement, flatten};
 use click_ports::{FaultKind as PortKind, PortFault, resolve};
 use click_text::syntax::{Config, FaultKind as TextKind, Span, TextFault};
-use click_text::{LONGEST_TEXT, parse};
+use click_text::{MAX_TEXT_BYTES, parse};
 use std::alloc::{AllocError, Global};
 use std::marker::Model;
 
@@ -310,7 +310,7 @@ pub fn prepare(alloc: Global, text: &[u8]) -> Result<Prepared, ConfigFault>
     ensures large { longest_text < length text.now → result ≡ Err (spec.fault_nowhere (FaultKind.Text TextKind.TooLarge)) }
 {
     // Lines and columns are counted only in a text within the limit.
-    if text.len() > LONGEST_TEXT {
+    if text.len() > MAX_TEXT_BYTES {
         return Err(fault_nowhere(FaultKind::Text(TextKind::TooLarge)));
     }
     match parse(alloc, text) {

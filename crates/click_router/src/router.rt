@@ -116,7 +116,7 @@ impl<T: Handlers> Router<T> {
         if let Call::Transmit { device } = call {
             return Ok(self.running.transmit(device.as_slice()));
         }
-        match self.record(alloc, call, None) {
+        match self.step_stored(alloc, call, None) {
             Ok(reply) => Ok(reply.into_small_reply()),
             Err(fault) => Err(fault),
         }
@@ -128,7 +128,7 @@ impl<T: Handlers> Router<T> {
     ///
     /// perf: a `StoredReply` is small; a `Reply` has room for a packet.
     #[inline(always)]
-    pub fn record(
+    pub fn step_stored(
         &mut self,
         alloc: Global,
         call: &Call,
@@ -140,6 +140,7 @@ impl<T: Handlers> Router<T> {
         ensures light { IfOk result (λ reply. holds_memory reply ≡ true → self.new ≡ self.old) }
         ensures sends { IfOk result (λ reply. sends_packet reply ≡ true → is_transmit call.now ≡ true) }
     {
-        self.table.record(&mut *self.running, alloc, call, room)
+        self.table
+            .step_stored(&mut *self.running, alloc, call, room)
     }
 }

@@ -4,7 +4,7 @@ ghost use Rattle.std.specs.Prelude.{◌≡◌};
 ghost use Rattle.click_router.specs.One.{arrivals};
 
 use crate::call::{Reply, StepFault, refusal_of};
-use crate::check::{Check, Direction, check_element, check_own};
+use crate::check::{Access, Check, check_element, check_own};
 use crate::fault::FaultKind;
 use crate::globals::{GlobalHandler, classes_text, is_hotconfig, list_text, named, number_text};
 use crate::opening::{Prepared, prepare};
@@ -103,7 +103,7 @@ impl RunningConfig {
     }
 
     /// Checks whether a handler can be read or written.
-    pub(crate) fn check(&self, way: Direction, name: &[u8]) -> Check
+    pub(crate) fn check(&self, way: Access, name: &[u8]) -> Check
         ensures { result ≡ spec.check (spec.listing_of self.now) way name.now }
     {
         match split(name) {
@@ -132,7 +132,7 @@ impl RunningConfig {
         ensures { IfOk result (λ reply. reply ≡ read_global name.now (global_value self.now name.now)) }
     {
         let Some(handler) = named(name) else {
-            return Ok(StoredReply::refused(refusal_of(is_hotconfig(name))));
+            return Ok(StoredReply::refusal(refusal_of(is_hotconfig(name))));
         };
         match self.global_value(alloc, handler) {
             Ok(value) => Ok(StoredReply::of(CompactReply::Value(Sequence::of(value)))),
@@ -193,7 +193,7 @@ impl RunningConfig {
     }
 
     /// Takes a packet for a device, and stores it in the given room.
-    pub(crate) fn transmit_stored(&mut self, device: &[u8], room: PacketRoom) -> StoredReply
+    pub(crate) fn transmit_compact(&mut self, device: &[u8], room: PacketRoom) -> StoredReply
         ensures { sent self.old device.now ≡ (self.new, result) }
     {
         if !self.plant.has_sink(device) {
@@ -230,7 +230,7 @@ impl RunningConfig {
             }
             Err(fault) => match fault.kind {
                 FaultKind::NoMemory => Err(StepFault::NoMemory),
-                _ => match StoredReply::faulty(alloc, fault) {
+                _ => match StoredReply::config_refused(alloc, fault) {
                     Ok(reply) => Ok(reply),
                     Err(_) => Err(StepFault::NoMemory),
                 },

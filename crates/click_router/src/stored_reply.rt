@@ -93,7 +93,7 @@ impl StoredReply {
     }
 
     /// Returns the reply to a Round in which the tasks emitted or pulled this many packets.
-    pub fn worked(count: u64) -> StoredReply
+    pub fn round_done(count: u64) -> StoredReply
         ensures { result ≡ Reply.Worked count }
     {
         StoredReply {
@@ -102,7 +102,7 @@ impl StoredReply {
     }
 
     /// Returns the reply to a refused call, except a swap that was refused for its configuration.
-    pub(crate) fn refused(why: Refusal) -> StoredReply
+    pub(crate) fn refusal(why: Refusal) -> StoredReply
         requires { refusal_holds why ≡ false }
         ensures { result ≡ Reply.Refused why }
     {
@@ -117,7 +117,7 @@ impl StoredReply {
     }
 
     /// Returns the reply to a swap that was refused for a fault of its configuration.
-    pub fn faulty(alloc: Global, fault: ConfigFault) -> Result<StoredReply, AllocError>
+    pub fn config_refused(alloc: Global, fault: ConfigFault) -> Result<StoredReply, AllocError>
         ensures { IfOk result (λ r. r ≡ Reply.Refused (Refusal.Config fault)) }
     {
         Ok(StoredReply {

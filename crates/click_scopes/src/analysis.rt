@@ -40,15 +40,15 @@ impl From<AllocError> for ScopeFault {
 fn first_wrong(
     alloc: Global,
     config: &Config,
-    entries: &[ClassEntry],
+    class_table: &[ClassEntry],
     scopes: &Scopes,
 ) -> Result<Option<TokenFault>, AllocError>
     requires nested { IsNested config.now }
-    requires synonyms { AreSynonyms config.now entries.now }
+    requires synonyms { AreSynonyms config.now class_table.now }
     requires scopes { AreScopes config.now scopes.now }
     ensures { IfOk result (IsFirst config.now) }
 {
-    let name_fault = first_name_fault(alloc, config, entries, scopes)?;
+    let name_fault = first_name_fault(alloc, config, class_table, scopes)?;
     let compound_fault = first_compound_fault(alloc, config, scopes)?;
     Ok(first_of(name_fault, compound_fault))
 }
@@ -77,7 +77,7 @@ pub fn analyze(alloc: Global, config: &Config) -> Result<Scopes, ScopeFault>
     let _length = text_len(config);
     let written = scopes_of(alloc, config)?;
     let scopes = all_scopes(alloc, config, &written)?;
-    match first_wrong(alloc, config, written.entries.as_slice(), &scopes)? {
+    match first_wrong(alloc, config, written.class_table.as_slice(), &scopes)? {
         Some(wrong) => Err(ScopeFault::Wrong(wrong)),
         None => Ok(scopes),
     }

@@ -1,7 +1,7 @@
 //! The class that a name means.
 
 ghost use Rattle.std.specs.Prelude.{◌≡◌, ℕ, List, ◌++◌, ◌∷◌, [], OnOk};
-ghost use Rattle.click_text.specs.declared.syntax.Statement.{Statement as Stated};
+ghost use Rattle.click_text.specs.declared.syntax.Statement.{Statement};
 ghost use Rattle.click_text.specs.Spans.{bytes_at};
 ghost use Rattle.click_scopes.specs.Classes.{primitive_of, meaning, class_meaning};
 ghost use Rattle.click_scopes.specs.kept.Tables.{meaning_by, Shows, entry_from};
@@ -40,27 +40,34 @@ fn primitive(word: &[u8]) -> Option<ResolvedClass>
 }
 
 /// Returns the definition at an index, with the index, if it is below the limit.
-fn entry_at(entries: &[ClassEntry], at: Option<usize>, limit: usize) -> Option<(usize, ClassEntry)>
-    ensures { result ≡ entry_from entries.now at limit }
+fn entry_at(
+    class_table: &[ClassEntry],
+    at: Option<usize>,
+    limit: usize,
+) -> Option<(usize, ClassEntry)>
+    ensures { result ≡ entry_from class_table.now at limit }
 {
     match at {
-        Some(place) if place < limit && place < entries.len() => Some((place, entries[place])),
+        Some(place) if place < limit && place < class_table.len() => Some((
+            place,
+            class_table[place],
+        )),
         _ => None,
     }
 }
 
-/// Returns the class that a word means. The last definition that is visible has the index `top`.
+/// Returns the class that a word means. The last definition that is visible has the index `visible_class`.
 pub fn find(
     text: &[u8],
-    entries: &[ClassEntry],
-    top: Option<usize>,
+    class_table: &[ClassEntry],
+    visible_class: Option<usize>,
     word: Span,
 ) -> Option<ResolvedClass>
-    ensures { (visible : List Stated) → Shows text.now entries.now top visible → meaning_by result ≡ meaning text.now visible (bytes_at text.now word) }
+    ensures { (visible : List Statement) → Shows text.now class_table.now visible_class visible → meaning_by result ≡ meaning text.now visible (bytes_at text.now word) }
 {
-    let mut at = top;
-    let mut limit = entries.len();
-    while let Some((place, entry)) = entry_at(entries, at, limit) {
+    let mut at = visible_class;
+    let mut limit = class_table.len();
+    while let Some((place, entry)) = entry_at(class_table, at, limit) {
         if entry.name.of(text) == word.of(text) {
             return entry.class;
         }
@@ -72,17 +79,17 @@ pub fn find(
 
 /// Returns the class that a class reference means.
 ///
-/// The last definition that is visible has the index `top`.
+/// The last definition that is visible has the index `visible_class`.
 pub fn class_at(
     text: &[u8],
-    entries: &[ClassEntry],
-    top: Option<usize>,
+    class_table: &[ClassEntry],
+    visible_class: Option<usize>,
     class: ClassReference,
 ) -> Option<ResolvedClass>
-    ensures { (visible : List Stated) → Shows text.now entries.now top visible → meaning_by result ≡ class_meaning text.now visible class }
+    ensures { (visible : List Statement) → Shows text.now class_table.now visible_class visible → meaning_by result ≡ class_meaning text.now visible class }
 {
     match class {
-        ClassReference::Named(word) => find(text, entries, top, word),
+        ClassReference::Named(word) => find(text, class_table, visible_class, word),
         ClassReference::Body(body) => Some(ResolvedClass::Compound(body)),
     }
 }

@@ -4,9 +4,9 @@ ghost use Rattle.std.specs.Prelude.{◌≡◌, length, IfOk};
 ghost use Rattle.click_scopes.specs.kept.FirstFault as spec;
 ghost use Rattle.click_scopes.specs.kept.FirstFault.{unknown_at, port_at, twice_at, first_in, scope_element_at, AreShort, IsLeast, IsWrongScopeElement, IsWrongFormal};
 
+use crate::borrowed_names::BorrowedNames;
 use crate::classes::ResolvedClass;
 use crate::fault::WrongUse;
-use crate::lent_names::LentNames;
 use crate::scope_elements::{ScopeElement, is_port_name};
 use click_text::syntax::{Body, ClassReference, Head, Span};
 use std::alloc::{AllocError, Global};
@@ -149,7 +149,7 @@ pub fn in_scope_elements(
     ensures { IfOk result (IsLeast (IsWrongScopeElement text.now bodies.now in_body scope_elements.now (length scope_elements.now))) }
 {
     let mut first = None;
-    let mut names = LentNames::with_room(alloc, scope_elements.len())?;
+    let mut names = BorrowedNames::with_room(alloc, scope_elements.len())?;
     for scope_element in scope_elements {
         let taken = names.add(scope_element.name.as_slice())?;
         first = first_of(
@@ -169,7 +169,7 @@ pub fn in_formals(
     ensures { IfOk result (IsLeast (IsWrongFormal text.now formals.now (length formals.now))) }
 {
     let mut first = None;
-    let mut names = LentNames::with_room(alloc, formals.len())?;
+    let mut names = BorrowedNames::with_room(alloc, formals.len())?;
     for formal in formals {
         let taken = names.add(formal.of(text))?;
         first = first_of(first, wrong_if(taken, WrongUse::DeclaredTwice, *formal));

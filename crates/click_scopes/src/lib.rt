@@ -3,12 +3,12 @@
 #![tactic(auto)]
 
 mod analysis;
+mod borrowed_names;
 mod classes;
 mod compound_arguments;
 mod compound_faults;
 mod fault;
 mod first_fault;
-mod lent_names;
 mod name_faults;
 mod names;
 mod ports;

@@ -30,11 +30,11 @@ fn unknown_original(entry: ClassEntry) -> Option<TokenFault>
 }
 
 /// Returns the first synonym of an unknown class.
-fn in_entries(entries: &[ClassEntry]) -> Option<TokenFault>
-    ensures { IsLeast (IsWrongEntry entries.now (length entries.now)) result }
+fn in_entries(class_table: &[ClassEntry]) -> Option<TokenFault>
+    ensures { IsLeast (IsWrongEntry class_table.now (length class_table.now)) result }
 {
     let mut first = None;
-    for entry in entries {
+    for entry in class_table {
         first = first_of(first, unknown_original(*entry));
     }
     first
@@ -107,16 +107,16 @@ fn in_bodies(
 pub fn first_name_fault(
     alloc: Global,
     config: &Config,
-    entries: &[ClassEntry],
+    class_table: &[ClassEntry],
     scopes: &Scopes,
 ) -> Result<Option<TokenFault>, AllocError>
     requires nested { IsNested config.now }
-    requires synonyms { AreSynonyms config.now entries.now }
+    requires synonyms { AreSynonyms config.now class_table.now }
     requires scopes { AreScopes config.now scopes.now }
     ensures { IfOk result (IsLeast (IsNameFault config.now)) }
 {
     let whole = in_scope(alloc, config, scopes, config.bodies.len())?;
     let bodies = in_bodies(alloc, config, scopes)?;
-    let originals = in_entries(entries);
+    let originals = in_entries(class_table);
     Ok(first_of(first_of(whole, bodies), originals))
 }

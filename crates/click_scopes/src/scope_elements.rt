@@ -8,9 +8,9 @@ ghost use Rattle.click_scopes.specs.kept.Lookups.{class_body};
 ghost use Rattle.click_scopes.specs.kept.ScopeElements.{AreScopeElementsOf, AreStringsOf, strings_of, strings_made};
 ghost use Rattle.click_scopes.specs.kept.Tables.{IsWrittenElement, AreWritten, elements_of, names_declared, numbers_from, role_kept, scope_element_of};
 
+use crate::borrowed_names::BorrowedNames;
 use crate::classes::{ClassEntry, ResolvedClass, class_at};
 use crate::compound_arguments::arguments_of;
-use crate::lent_names::LentNames;
 use crate::written_scopes::WrittenElement;
 use click_base::sequence::Sequence;
 use click_text::syntax::{ClassReference, Element, Head, Span};
@@ -59,7 +59,7 @@ pub fn is_port_name(word: &[u8]) -> bool
 }
 
 /// Returns the role of a bare word.
-fn word_role(in_body: bool, declared: &LentNames, word: &[u8]) -> Role
+fn word_role(in_body: bool, declared: &BorrowedNames, word: &[u8]) -> Role
     ensures { role_kept result ≡ spec.word_role in_body declared.now word.now }
 {
     if in_body && is_port_name(word) {
@@ -73,7 +73,12 @@ fn word_role(in_body: bool, declared: &LentNames, word: &[u8]) -> Role
 }
 
 /// Returns the role of a written element.
-pub(crate) fn role_of(text: &[u8], in_body: bool, declared: &LentNames, element: Element) -> Role
+pub(crate) fn role_of(
+    text: &[u8],
+    in_body: bool,
+    declared: &BorrowedNames,
+    element: Element,
+) -> Role
     ensures { role_kept result ≡ spec.role text.now in_body declared.now element }
 {
     match (element.head, element.text) {
@@ -124,16 +129,21 @@ fn head_class(head: Head) -> ClassReference
 fn made(
     alloc: Global,
     text: &[u8],
-    entries: &[ClassEntry],
+    class_table: &[ClassEntry],
     before: usize,
     one: WrittenElement,
 ) -> Result<ScopeElement, AllocError>
     requires { before < usize.MAX }
-    ensures scope_element { IfOk result (λ l. (p : Placed) → IsWrittenElement text.now entries.now one p → scope_element_of text.now l ≡ spec.scope_element text.now before p) }
+    ensures scope_element { IfOk result (λ l. (p : Placed) → IsWrittenElement text.now class_table.now one p → scope_element_of text.now l ≡ spec.scope_element text.now before p) }
     ensures string { IfOk result (λ l. l.text ≡ one.element.text) }
     ensures arguments { IfOk result (HasArguments text.now) }
 {
-    let class = class_at(text, entries, one.top, head_class(one.element.head));
+    let class = class_at(
+        text,
+        class_table,
+        one.visible_class,
+        head_class(one.element.head),
+    );
     Ok(ScopeElement {
         name: made_name(alloc, text, before, one.element.head)?,
         class,
@@ -158,19 +168,19 @@ fn push(
 pub(crate) fn scope_elements_of(
     alloc: Global,
     text: &[u8],
-    entries: &[ClassEntry],
+    class_table: &[ClassEntry],
     in_body: bool,
-    declared: &LentNames,
+    declared: &BorrowedNames,
     written: &[WrittenElement],
 ) -> Result<Vec<ScopeElement>, AllocError>
-    ensures scope_elements { IfOk result (λ ls. (ps : List Placed) → AreWritten text.now entries.now written.now ps → map (scope_element_of text.now) ls.items ≡ scope_elements_from text.now in_body declared.now 0 ps) }
+    ensures scope_elements { IfOk result (λ ls. (ps : List Placed) → AreWritten text.now class_table.now written.now ps → map (scope_element_of text.now) ls.items ≡ scope_elements_from text.now in_body declared.now 0 ps) }
     ensures strings { IfOk result (λ ls. strings_of ls.items ≡ strings_made text.now in_body declared.now (elements_of written.now)) }
     ensures arguments { IfOk result (λ ls. All (HasArguments text.now) ls.items) }
 {
     let mut scope_elements = Vec::with_capacity(alloc, written.len())?;
     for one in written {
         if let Role::Makes = role_of(text, in_body, declared, one.element) {
-            let scope_element = made(alloc, text, entries, scope_elements.len(), *one)?;
+            let scope_element = made(alloc, text, class_table, scope_elements.len(), *one)?;
             push(&mut scope_elements, scope_element)?;
         }
     }
@@ -182,7 +192,7 @@ pub(crate) fn numbers_of(
     alloc: Global,
     text: &[u8],
     in_body: bool,
-    declared: &LentNames,
+    declared: &BorrowedNames,
     written: &[WrittenElement],
 ) -> Result<Vec<usize>, AllocError>
     ensures { IfOk result (λ ns. ns.items ≡ numbers_from text.now in_body declared.now 0 (elements_of written.now)) }

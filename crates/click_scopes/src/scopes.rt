@@ -133,22 +133,22 @@ impl Scopes {
 fn scope_of(
     alloc: Global,
     config: &Config,
-    entries: &[ClassEntry],
+    class_table: &[ClassEntry],
     in_body: bool,
     written: &WrittenScope,
 ) -> Result<Scope, AllocError>
     requires { AreShort config.now.bodies }
-    ensures { IfOk result (λ scope. IsScopeOf config.now entries.now in_body written.now scope) }
+    ensures { IfOk result (λ scope. IsScopeOf config.now class_table.now in_body written.now scope) }
 {
     let text = config.text.as_slice();
     let all = written.written.as_slice();
     let declared = declared_in(alloc, text, all)?;
-    let elements = scope_elements_of(alloc, text, entries, in_body, &declared.names, all)?;
+    let elements = scope_elements_of(alloc, text, class_table, in_body, &declared.names, all)?;
     let connections = written_connections_in(alloc, config, in_body, &declared, all)?;
     Ok(Scope {
         elements,
         connections,
-        parent: written.outer,
+        parent: written.parent,
     })
 }
 
@@ -168,14 +168,14 @@ pub(crate) fn all_scopes(
 ) -> Result<Scopes, AllocError>
     requires nested { IsNested config.now }
     requires short { AreShort config.now.bodies }
-    requires scoped { AreWrittenScopes config.now written.now.entries.items written.now.scopes.items }
+    requires scoped { AreWrittenScopes config.now written.now.class_table.items written.now.scopes.items }
     ensures { IfOk result (λ all. AreAllScopes config.now all.scopes.items) }
 {
     let count = config.bodies.len();
-    let entries = written.entries.as_slice();
+    let class_table = written.class_table.as_slice();
     let mut scopes = Vec::new(alloc);
     for (place, one) in written.scopes.as_slice().iter().enumerate() {
-        let scope = scope_of(alloc, config, entries, place < count, one)?;
+        let scope = scope_of(alloc, config, class_table, place < count, one)?;
         push_scope(&mut scopes, scope)?;
     }
     Ok(Scopes { scopes })

@@ -2,8 +2,8 @@
 
 ghost use Rattle.std.specs.Prelude.{◌≡◌, ℕ, List, [], ◌∷◌, ◌++◌, map, length, position, IfOk, OnOk, OnErr, if◌then◌else◌};
 ghost use Rattle.std.specs.Str.{bytes_eq};
-ghost use Rattle.click_text.specs.declared.syntax.Statement.{Statement as Stated};
-ghost use Rattle.click_text.specs.declared.syntax.Config.{Config as Configured};
+ghost use Rattle.click_text.specs.declared.syntax.Statement.{Statement};
+ghost use Rattle.click_text.specs.declared.syntax.Config.{Config};
 ghost use Rattle.click_scopes.specs.Elements as spec;
 ghost use Rattle.click_scopes.specs.Elements.{Placed, ScopeElement, placed, has_name};
 ghost use Rattle.click_scopes.specs.Faults.{ScopeNames as NamesSaid, written_end, written_connections_from};
@@ -13,8 +13,8 @@ ghost use Rattle.click_scopes.specs.kept.ConnectionEnds.{at, names_among, scope_
 ghost use Rattle.click_scopes.specs.kept.Tables.{elements_of, names_declared};
 ghost use Rattle.click_scopes.specs.kept.FirstFault.{AreShort};
 
+use crate::borrowed_names::BorrowedNames;
 use crate::first_fault::first_token;
-use crate::lent_names::LentNames;
 use crate::scope_elements::{Role, numbers_of, role_of};
 use crate::written_scopes::WrittenElement;
 use click_base::sequence::Sequence;
@@ -51,7 +51,7 @@ pub struct WrittenConnection {
 /// The names that a scope declares, and the index of the first written element for each name.
 #[derive(Drop)]
 pub(crate) struct Declared<'a> {
-    pub names: LentNames<'a>,
+    pub names: BorrowedNames<'a>,
     pub firsts: Vec<usize>,
 }
 
@@ -95,7 +95,7 @@ pub(crate) fn declared_in<'a>(
     ensures first { IfOk result (λ d. AreDeclared text.now (elements_of written.now) d.names d.firsts.items) }
     ensures has { IfOk result (λ d. (name : List ℕ) → has_name name d.names ≡ has_name name (names_declared text.now (elements_of written.now))) }
 {
-    let names = LentNames::with_room(alloc, written.len())?;
+    let names = BorrowedNames::with_room(alloc, written.len())?;
     let firsts = Vec::with_capacity(alloc, written.len())?;
     let mut declared = Declared { names, firsts };
     for (place, one) in written.iter().enumerate() {
@@ -255,7 +255,7 @@ fn written_connections_between(
     written: &[WrittenElement],
 ) -> Result<Sequence<WrittenConnection>, AllocError>
     requires { length ends.now ≡ length written.now }
-    ensures { IfOk result (λ written_connections. (c : Configured) (names : NamesSaid) (ls : List ScopeElement) (visible statements : List Stated) → AreEndsKept ls c names 0 ends.now (placed visible statements) →
+    ensures { IfOk result (λ written_connections. (c : Config) (names : NamesSaid) (ls : List ScopeElement) (visible statements : List Statement) → AreEndsKept ls c names 0 ends.now (placed visible statements) →
         map (λ w. w.ports) written.now ≡ ports_in statements → AreWrittenConnections ls written_connections (written_connections_from c names visible 0 statements)) }
 {
     let mut written_connections = Sequence::new(alloc);

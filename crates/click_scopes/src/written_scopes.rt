@@ -1,7 +1,7 @@
 //! The written scopes of a configuration: each body at its index, and after them the whole text.
 
 ghost use Rattle.std.specs.Prelude.{◌≡◌, List, [], ◌∷◌, ◌++◌, map, slice_get, IfOk, OnOk};
-ghost use Rattle.click_text.specs.declared.syntax.Statement.{Statement as Stated};
+ghost use Rattle.click_text.specs.declared.syntax.Statement.{Statement};
 ghost use Rattle.click_scopes.specs.Scopes.{bodies_in, class_bodies, head_bodies, link_bodies, body_statements};
 ghost use Rattle.click_scopes.specs.Elements.{placed};
 ghost use Rattle.click_scopes.specs.Faults as faults;
@@ -22,7 +22,7 @@ use std::alloc::{AllocError, Global};
 #[derive(Clone, Copy)]
 pub struct WrittenElement {
     pub element: Element,
-    pub top: Option<usize>,
+    pub visible_class: Option<usize>,
     pub ports: Option<(u8, u8)>,
 }
 
@@ -30,8 +30,8 @@ pub struct WrittenElement {
 #[derive(Clone, Copy)]
 pub struct NestedBody {
     pub body: usize,
-    pub outer: usize,
-    pub top: Option<usize>,
+    pub parent: usize,
+    pub visible_class: Option<usize>,
 }
 
 /// A written scope: its written elements, and the index of the scope around it.
@@ -40,7 +40,7 @@ pub struct NestedBody {
 #[derive(Drop)]
 pub struct WrittenScope {
     pub written: Vec<WrittenElement>,
-    pub outer: usize,
+    pub parent: usize,
 }
 
 /// The written scopes of a configuration, and the definitions of classes in them.
@@ -49,7 +49,7 @@ pub struct WrittenScope {
 #[derive(Drop)]
 pub struct WrittenScopes {
     pub scopes: Vec<WrittenScope>,
-    pub entries: Vec<ClassEntry>,
+    pub class_table: Vec<ClassEntry>,
 }
 
 /// Returns the number of a port, which is 0 if none is written.
@@ -66,14 +66,14 @@ fn port_number(port: Option<WrittenPort>) -> u8
 fn push_links(
     written: &mut Vec<WrittenElement>,
     links: &[Link],
-    top: Option<usize>,
+    visible_class: Option<usize>,
 ) -> Result<(), AllocError>
-    ensures { OnOk result (written.new.items ≡ written.old.items ++ map (λ l. kept_link top l) links.now) }
+    ensures { OnOk result (written.new.items ≡ written.old.items ++ map (λ l. kept_link visible_class l) links.now) }
 {
     for link in links {
         written.push(WrittenElement {
             element: link.element,
-            top,
+            visible_class,
             ports: Some((port_number(link.from), port_number(link.to))),
         })?;
     }
@@ -84,9 +84,9 @@ fn push_links(
 fn push_names(
     written: &mut Vec<WrittenElement>,
     declaration: &Declaration,
-    top: Option<usize>,
+    visible_class: Option<usize>,
 ) -> Result<(), AllocError>
-    ensures { OnOk result (written.new.items ≡ written.old.items ++ map (λ n. kept_name declaration.now top n) declaration.now.names) }
+    ensures { OnOk result (written.new.items ≡ written.old.items ++ map (λ n. kept_name declaration.now visible_class n) declaration.now.names) }
 {
     for name in declaration.names.as_slice() {
         written.push(WrittenElement {
@@ -94,7 +94,7 @@ fn push_names(
                 head: Head::Declared(*name, declaration.class),
                 text: declaration.text,
             },
-            top,
+            visible_class,
             ports: None,
         })?;
     }
@@ -105,29 +105,29 @@ fn push_names(
 fn push_chain(
     written: &mut Vec<WrittenElement>,
     chain: &Chain,
-    top: Option<usize>,
+    visible_class: Option<usize>,
 ) -> Result<(), AllocError>
-    ensures { OnOk result (written.new.items ≡ written.old.items ++ kept_elements top (Statement.Chain chain.now)) }
+    ensures { OnOk result (written.new.items ≡ written.old.items ++ kept_elements visible_class (Statement.Chain chain.now)) }
 {
     written.push(WrittenElement {
         element: chain.first,
-        top,
+        visible_class,
         ports: None,
     })?;
-    push_links(written, chain.links.as_slice(), top)
+    push_links(written, chain.links.as_slice(), visible_class)
 }
 
 /// Appends the elements of a statement.
 fn push_elements(
     written: &mut Vec<WrittenElement>,
     statement: &Statement,
-    top: Option<usize>,
+    visible_class: Option<usize>,
 ) -> Result<(), AllocError>
-    ensures { OnOk result (written.new.items ≡ written.old.items ++ kept_elements top statement.now) }
+    ensures { OnOk result (written.new.items ≡ written.old.items ++ kept_elements visible_class statement.now) }
 {
     match statement {
-        Statement::Chain(chain) => push_chain(written, chain, top),
-        Statement::Declaration(declaration) => push_names(written, declaration, top),
+        Statement::Chain(chain) => push_chain(written, chain, visible_class),
+        Statement::Declaration(declaration) => push_names(written, declaration, visible_class),
         _ => Ok(()),
     }
 }
@@ -136,54 +136,63 @@ fn push_elements(
 fn push_nested_body(
     nested_bodies: &mut Vec<NestedBody>,
     body: usize,
-    outer: usize,
-    top: Option<usize>,
+    parent: usize,
+    visible_class: Option<usize>,
 ) -> Result<(), AllocError>
-    ensures { OnOk result (nested_bodies.new.items ≡ nested_bodies.old.items ++ map (nested_body outer top) (body ∷ [])) }
+    ensures { OnOk result (nested_bodies.new.items ≡ nested_bodies.old.items ++ map (nested_body parent visible_class) (body ∷ [])) }
 {
-    nested_bodies.push(NestedBody { body, outer, top })?;
+    nested_bodies.push(NestedBody {
+        body,
+        parent,
+        visible_class,
+    })?;
     Ok(())
 }
 
 fn push_class_nested_body(
     nested_bodies: &mut Vec<NestedBody>,
     class: ClassReference,
-    outer: usize,
-    top: Option<usize>,
+    parent: usize,
+    visible_class: Option<usize>,
 ) -> Result<(), AllocError>
-    ensures { OnOk result (nested_bodies.new.items ≡ nested_bodies.old.items ++ map (nested_body outer top) (class_bodies class)) }
+    ensures { OnOk result (nested_bodies.new.items ≡ nested_bodies.old.items ++ map (nested_body parent visible_class) (class_bodies class)) }
 {
     match class {
         ClassReference::Named(_) => Ok(()),
-        ClassReference::Body(body) => push_nested_body(nested_bodies, body, outer, top),
+        ClassReference::Body(body) => push_nested_body(nested_bodies, body, parent, visible_class),
     }
 }
 
 fn push_head_nested_body(
     nested_bodies: &mut Vec<NestedBody>,
     head: Head,
-    outer: usize,
-    top: Option<usize>,
+    parent: usize,
+    visible_class: Option<usize>,
 ) -> Result<(), AllocError>
-    ensures { OnOk result (nested_bodies.new.items ≡ nested_bodies.old.items ++ map (nested_body outer top) (head_bodies head)) }
+    ensures { OnOk result (nested_bodies.new.items ≡ nested_bodies.old.items ++ map (nested_body parent visible_class) (head_bodies head)) }
 {
     match head {
         Head::Word(_) => Ok(()),
-        Head::Declared(_, class) => push_class_nested_body(nested_bodies, class, outer, top),
-        Head::Compound(body) => push_nested_body(nested_bodies, body, outer, top),
+        Head::Declared(_, class) => push_class_nested_body(
+            nested_bodies,
+            class,
+            parent,
+            visible_class,
+        ),
+        Head::Compound(body) => push_nested_body(nested_bodies, body, parent, visible_class),
     }
 }
 
 fn push_link_nested_bodies(
     nested_bodies: &mut Vec<NestedBody>,
     links: &[Link],
-    outer: usize,
-    top: Option<usize>,
+    parent: usize,
+    visible_class: Option<usize>,
 ) -> Result<(), AllocError>
-    ensures { OnOk result (nested_bodies.new.items ≡ nested_bodies.old.items ++ map (nested_body outer top) (link_bodies links.now)) }
+    ensures { OnOk result (nested_bodies.new.items ≡ nested_bodies.old.items ++ map (nested_body parent visible_class) (link_bodies links.now)) }
 {
     for link in links {
-        push_head_nested_body(nested_bodies, link.element.head, outer, top)?;
+        push_head_nested_body(nested_bodies, link.element.head, parent, visible_class)?;
     }
     Ok(())
 }
@@ -191,34 +200,39 @@ fn push_link_nested_bodies(
 fn push_chain_nested_bodies(
     nested_bodies: &mut Vec<NestedBody>,
     chain: &Chain,
-    outer: usize,
-    top: Option<usize>,
+    parent: usize,
+    visible_class: Option<usize>,
 ) -> Result<(), AllocError>
-    ensures { OnOk result (nested_bodies.new.items ≡ nested_bodies.old.items ++ map (nested_body outer top) (bodies_in (Statement.Chain chain.now))) }
+    ensures { OnOk result (nested_bodies.new.items ≡ nested_bodies.old.items ++ map (nested_body parent visible_class) (bodies_in (Statement.Chain chain.now))) }
 {
-    push_head_nested_body(nested_bodies, chain.first.head, outer, top)?;
-    push_link_nested_bodies(nested_bodies, chain.links.as_slice(), outer, top)
+    push_head_nested_body(nested_bodies, chain.first.head, parent, visible_class)?;
+    push_link_nested_bodies(nested_bodies, chain.links.as_slice(), parent, visible_class)
 }
 
 /// Appends the bodies in a statement.
 fn push_nested_bodies(
     nested_bodies: &mut Vec<NestedBody>,
     statement: &Statement,
-    outer: usize,
-    top: Option<usize>,
+    parent: usize,
+    visible_class: Option<usize>,
 ) -> Result<(), AllocError>
-    ensures { OnOk result (nested_bodies.new.items ≡ nested_bodies.old.items ++ map (nested_body outer top) (bodies_in statement.now)) }
+    ensures { OnOk result (nested_bodies.new.items ≡ nested_bodies.old.items ++ map (nested_body parent visible_class) (bodies_in statement.now)) }
 {
     match statement {
-        Statement::Chain(chain) => push_chain_nested_bodies(nested_bodies, chain, outer, top),
+        Statement::Chain(chain) => push_chain_nested_bodies(
+            nested_bodies,
+            chain,
+            parent,
+            visible_class,
+        ),
         Statement::Declaration(declaration) => {
-            push_class_nested_body(nested_bodies, declaration.class, outer, top)
+            push_class_nested_body(nested_bodies, declaration.class, parent, visible_class)
         }
         Statement::Definition { name: _, body } => push_nested_body(
             nested_bodies,
             *body,
-            outer,
-            top,
+            parent,
+            visible_class,
         ),
         _ => Ok(()),
     }
@@ -226,26 +240,26 @@ fn push_nested_bodies(
 
 /// Returns the definition that a statement makes, if it makes one.
 ///
-/// The last definition that is visible has the index `top`.
+/// The last definition that is visible has the index `visible_class`.
 fn entry_of(
     text: &[u8],
-    entries: &[ClassEntry],
+    class_table: &[ClassEntry],
     statement: &Statement,
-    top: Option<usize>,
+    visible_class: Option<usize>,
 ) -> Option<ClassEntry>
-    ensures { (visible : List Stated) → Shows text.now entries.now top visible → IsEntry text.now visible top statement.now result }
+    ensures { (visible : List Statement) → Shows text.now class_table.now visible_class visible → IsEntry text.now visible visible_class statement.now result }
 {
     match statement {
         Statement::Definition { name, body } => Some(ClassEntry {
             name: *name,
             class: Some(ResolvedClass::Compound(*body)),
-            older: top,
+            older: visible_class,
             original: None,
         }),
         Statement::Synonym { name, class } => Some(ClassEntry {
             name: *name,
-            class: find(text, entries, top, *class),
-            older: top,
+            class: find(text, class_table, visible_class, *class),
+            older: visible_class,
             original: Some(*class),
         }),
         _ => None,
@@ -257,19 +271,19 @@ fn entry_of(
 /// Returns the index of the last definition that is visible after the statement.
 fn define(
     text: &[u8],
-    entries: &mut Vec<ClassEntry>,
+    class_table: &mut Vec<ClassEntry>,
     statement: &Statement,
-    top: Option<usize>,
+    visible_class: Option<usize>,
 ) -> Result<Option<usize>, AllocError>
-    ensures grows { IsMore entries.old.items entries.new.items }
-    ensures shows { IfOk result (λ behind. (visible : List Stated) → Shows text.now entries.old.items top visible → Shows text.now entries.new.items behind (statement.now ∷ visible)) }
-    ensures adds { OnOk result ((visible : List Stated) → Shows text.now entries.old.items top visible → IsDefined text.now visible top statement.now entries.old.items entries.new.items) }
+    ensures grows { IsMore class_table.old.items class_table.new.items }
+    ensures shows { IfOk result (λ behind. (visible : List Statement) → Shows text.now class_table.old.items visible_class visible → Shows text.now class_table.new.items behind (statement.now ∷ visible)) }
+    ensures adds { OnOk result ((visible : List Statement) → Shows text.now class_table.old.items visible_class visible → IsDefined text.now visible visible_class statement.now class_table.old.items class_table.new.items) }
 {
-    match entry_of(text, entries.as_slice(), statement, top) {
-        None => Ok(top),
+    match entry_of(text, class_table.as_slice(), statement, visible_class) {
+        None => Ok(visible_class),
         Some(entry) => {
-            let place = entries.len();
-            entries.push(entry)?;
+            let place = class_table.len();
+            class_table.push(entry)?;
             Ok(Some(place))
         }
     }
@@ -280,27 +294,27 @@ fn written_scope(
     alloc: Global,
     text: &[u8],
     statements: &[Statement],
-    entries: &mut Vec<ClassEntry>,
+    class_table: &mut Vec<ClassEntry>,
     nested_bodies: &mut Vec<NestedBody>,
     nested_body: NestedBody,
 ) -> Result<WrittenScope, AllocError>
-    ensures grows { IsMore entries.old.items entries.new.items }
-    ensures written { IfOk result (λ s. (visible : List Stated) → Shows text.now entries.old.items nested_body.top visible → AreWritten text.now entries.new.items s.written.items (placed visible statements.now)) }
-    ensures nested_bodies { OnOk result ((visible : List Stated) → Shows text.now entries.old.items nested_body.top visible → AreNestedBodies text.now entries.new.items nested_body.body visible statements.now nested_bodies.old.items nested_bodies.new.items) }
+    ensures grows { IsMore class_table.old.items class_table.new.items }
+    ensures written { IfOk result (λ s. (visible : List Statement) → Shows text.now class_table.old.items nested_body.visible_class visible → AreWritten text.now class_table.new.items s.written.items (placed visible statements.now)) }
+    ensures nested_bodies { OnOk result ((visible : List Statement) → Shows text.now class_table.old.items nested_body.visible_class visible → AreNestedBodies text.now class_table.new.items nested_body.body visible statements.now nested_bodies.old.items nested_bodies.new.items) }
     ensures ports { IfOk result (λ s. written_ports s.written.items ≡ ports_in statements.now) }
-    ensures outer { IfOk result (λ s. s.outer ≡ nested_body.outer) }
-    ensures synonyms { OnOk result ((visible : List Stated) → Shows text.now entries.old.items nested_body.top visible → AddsSynonyms text.now visible statements.now entries.old.items entries.new.items) }
+    ensures parent { IfOk result (λ s. s.parent ≡ nested_body.parent) }
+    ensures synonyms { OnOk result ((visible : List Statement) → Shows text.now class_table.old.items nested_body.visible_class visible → AddsSynonyms text.now visible statements.now class_table.old.items class_table.new.items) }
 {
     let mut written = Vec::new(alloc);
-    let mut top = nested_body.top;
+    let mut visible_class = nested_body.visible_class;
     for statement in statements {
-        push_elements(&mut written, statement, top)?;
-        push_nested_bodies(nested_bodies, statement, nested_body.body, top)?;
-        top = define(text, entries, statement, top)?;
+        push_elements(&mut written, statement, visible_class)?;
+        push_nested_bodies(nested_bodies, statement, nested_body.body, visible_class)?;
+        visible_class = define(text, class_table, statement, visible_class)?;
     }
     Ok(WrittenScope {
         written,
-        outer: nested_body.outer,
+        parent: nested_body.parent,
     })
 }
 
@@ -325,26 +339,26 @@ fn push_scope(scopes: &mut Vec<WrittenScope>, scope: WrittenScope) -> Result<(),
 /// Returns the written scopes of a configuration, and the definitions of classes in them.
 pub fn scopes_of(alloc: Global, config: &Config) -> Result<WrittenScopes, AllocError>
     requires { IsNested config.now }
-    ensures scopes { IfOk result (λ r. AreWrittenScopes config.now r.entries.items r.scopes.items) }
-    ensures synonyms { IfOk result (λ r. AreSynonyms config.now r.entries.items) }
+    ensures scopes { IfOk result (λ r. AreWrittenScopes config.now r.class_table.items r.scopes.items) }
+    ensures synonyms { IfOk result (λ r. AreSynonyms config.now r.class_table.items) }
 {
     let text = config.text.as_slice();
     let bodies = config.bodies.as_slice();
     let statements = config.statements.as_slice();
     let count = bodies.len();
-    let mut entries = Vec::new(alloc);
+    let mut class_table = Vec::new(alloc);
     let mut nested_bodies = Vec::new(alloc);
     let mut scopes = Vec::new(alloc);
     let whole_text = NestedBody {
         body: count,
-        outer: count,
-        top: None,
+        parent: count,
+        visible_class: None,
     };
     let scope = written_scope(
         alloc,
         text,
         statements,
-        &mut entries,
+        &mut class_table,
         &mut nested_bodies,
         whole_text,
     )?;
@@ -355,12 +369,15 @@ pub fn scopes_of(alloc: Global, config: &Config) -> Result<WrittenScopes, AllocE
             alloc,
             text,
             inner,
-            &mut entries,
+            &mut class_table,
             &mut nested_bodies,
             nested_body,
         )?;
         push_scope(&mut scopes, scope)?;
     }
     scopes.reverse();
-    Ok(WrittenScopes { scopes, entries })
+    Ok(WrittenScopes {
+        scopes,
+        class_table,
+    })
 }

@@ -1,6 +1,7 @@
 //! Commands that a session assembles from pieces, and the text of its faults.
 
-use click_control::{AskFault, Command, Failed, ServeFault, Session};
+use click_control::{AskFault, Command, ServeFault, Session};
+use click_streams::Failed;
 use std::alloc::{AllocError, Global};
 use std::test::Fail;
 

@@ -8,8 +8,8 @@ use crate::drivers::Driver;
 use click_base::sequence::Sequence;
 use click_desk::{Desk, Seat};
 use click_links::{
-    CountSnapshot, Datagram, Device, Dropped, Ended, Inbound, Intake, LinkFailed, LinkParts,
-    Linked, MemoryIn, MemoryOut, Received, Receiving, run_links,
+    CountSnapshot, Datagram, Device, Dropped, Ended, Inbound, LinkFailed, LinkSet, LinksOutcome,
+    MemoryIn, MemoryOut, Receiver, ReceiverReport, RecordedFeed, run_links,
 };
 use click_packet::StoredPacket;
 use click_router::Handlers;
@@ -103,7 +103,7 @@ struct Closing<'a> {
 }
 
 impl Inbound for Closing<'_> {
-    ghost came = { λ c. ⟦<MemoryIn as Inbound>⟧.came c.listed };
+    ghost received = { λ c. ⟦<MemoryIn as Inbound>⟧.received c.listed };
 
     ghost current = { λ c. ⟦<MemoryIn as Inbound>⟧.current c.listed };
 
@@ -127,20 +127,20 @@ impl Inbound for Closing<'_> {
 /// Returns two receivers, of five datagrams and of two.
 fn receivers<'a>(
     alloc: Global,
-    first: Intake,
-    second: Intake,
+    first: RecordedFeed,
+    second: RecordedFeed,
     left: &'a AtomicUsize,
     stop: &'a AtomicBool,
-) -> Result<Vec<Receiving<Closing<'a>>>, AllocError>
+) -> Result<Vec<Receiver<Closing<'a>>>, AllocError>
     ensures { IfOk result (λ links. vec_len links ≡ 2) }
 {
     let mut links = Vec::with_capacity(alloc, 2)?;
     let a = Sequence::copy_of(alloc, b"a")?;
     let listed = mixed(alloc)?;
-    links.push_reserved(Receiving::new(a, first, Closing { listed, left, stop }));
+    links.push_reserved(Receiver::new(a, first, Closing { listed, left, stop }));
     let b = Sequence::copy_of(alloc, b"b")?;
     let listed = pair(alloc)?;
-    links.push_reserved(Receiving::new(b, second, Closing { listed, left, stop }));
+    links.push_reserved(Receiver::new(b, second, Closing { listed, left, stop }));
     Ok(links)
 }
 
@@ -177,13 +177,13 @@ const TWO_DROPPED: Dropped = Dropped {
 };
 
 /// Returns whether a receiver ended with its link and dropped these datagrams.
-fn is_ended<L>(link: &Receiving<L>, dropped: Dropped) -> bool {
+fn is_ended<L>(link: &Receiver<L>, dropped: Dropped) -> bool {
     let ended = Ended::Link;
-    link.received == Received { dropped, ended }
+    link.received == ReceiverReport { dropped, ended }
 }
 
 /// Returns whether both receivers ended with their links, and each count is right.
-fn all_came<L: Drop>(links: &[Receiving<L>], devices: &[Device]) -> bool {
+fn all_came<L: Drop>(links: &[Receiver<L>], devices: &[Device]) -> bool {
     match (links, devices) {
         ([first, second], [a, b]) => {
             is_ended(first, TWO_DROPPED)
@@ -196,14 +196,17 @@ fn all_came<L: Drop>(links: &[Receiving<L>], devices: &[Device]) -> bool {
 }
 
 /// Returns the feeds of two device drivers, in their order, as those of receivers.
-fn intakes_of(mut drivers: Vec<Driver>) -> Option<(Intake, Intake)> {
+fn intakes_of(mut drivers: Vec<Driver>) -> Option<(RecordedFeed, RecordedFeed)> {
     let second = drivers.pop()?;
     let first = drivers.pop()?;
-    Some((Intake::of(first.feed), Intake::of(second.feed)))
+    Some((RecordedFeed::of(first.feed), RecordedFeed::of(second.feed)))
 }
 
 /// Returns whether a run of two links sent what each of them received.
-fn has_crossed<T: Drop>(linked: &Linked<T, Closing<'_>, MemoryOut>, devices: &[Device]) -> bool {
+fn has_crossed<T: Drop>(
+    linked: &LinksOutcome<T, Closing<'_>, MemoryOut>,
+    devices: &[Device],
+) -> bool {
     let packets = linked.sender.packets();
     linked.fault.is_none()
         & all_came(linked.links.as_slice(), devices)
@@ -217,7 +220,7 @@ fn run_crossed<T: Handlers + Send + Drop, R: Threads + Wait + Sync>(
     alloc: Global,
     desk: &Desk<T, &R>,
     seat: Seat<T>,
-    intakes: (Intake, Intake),
+    intakes: (RecordedFeed, RecordedFeed),
 ) -> Option<bool>
     requires { seat.desk ≡ desk.now }
 {
@@ -228,12 +231,12 @@ fn run_crossed<T: Handlers + Send + Drop, R: Threads + Wait + Sync>(
     let devices = both(alloc).ok()?;
     let devices = devices.as_slice();
     let sender = sender(alloc).ok()?;
-    let link_parts = LinkParts {
+    let link_set = LinkSet {
         devices,
         receivers,
         sender,
     };
-    let linked = run_links(rt, alloc, desk, seat, link_parts, &stop);
+    let linked = run_links(rt, alloc, desk, seat, link_set, &stop);
     Some(has_crossed(&linked, devices))
 }
 

@@ -1,6 +1,6 @@
 //! Peers of sessions from memory, and the door by which they come in.
 
-use click_control::{Reading, Writing};
+use click_streams::{Reading, Writing};
 use click_workers::Door;
 use std::alloc::{AllocError, Global};
 use std::io::{self, ErrorKind, Write};

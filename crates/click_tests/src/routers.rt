@@ -6,9 +6,10 @@ ghost use Rattle.click_router.specs.Polls.{is_poll};
 use crate::cases::{Case, assert_case};
 use crate::desks::{Asked, call_of};
 use click_base::sequence::Sequence;
-use click_control::{Ended, Port, Reading, Writing, serve};
+use click_control::{Ended, Port, serve};
 use click_packet::{Packet, StoredPacket};
 use click_router::{Call, CompactReply, Handlers, Reply, Router, prepare};
+use click_streams::{Reading, Writing};
 use std::alloc::Global;
 use std::sync::Arc;
 use std::sync::atomic::{AtomicU64, Ordering};
@@ -67,7 +68,7 @@ fn sends<T: Handlers>(alloc: Global, router: &mut Router<T>) -> Option<bool> {
     for _ in 0..2 {
         router.ask(alloc, arrive(alloc)?).ok()?;
     }
-    let first = Port::record(router, alloc, transmit(alloc)?).ok()?;
+    let first = Port::ask_stored(router, alloc, transmit(alloc)?).ok()?;
     let second = router.ask(alloc, transmit(alloc)?).ok()?;
     match (first.compact(), &second) {
         (CompactReply::Sent(kept), Reply::Sent(Some(packet))) => {

@@ -1,7 +1,7 @@
 //! The server loop, over sockets of this host: what clients get until a service stops it.
 
 use bytes::{BufMut, Bytes};
-use click_http::{Ended, PLACES, PageListener, open_page_listener, serve_until};
+use click_http::{Ended, HttpListener, MAX_CONNECTIONS, open_http_listener, serve_until};
 use http::Request;
 use http_server::{Response, Service};
 use std::alloc::{AllocError, Global};
@@ -41,7 +41,7 @@ impl<'a> Service for Greeter<'a> {
 fn serve<R: Wait + Clock>(
     rt: &R,
     alloc: Global,
-    page_listener: PageListener,
+    http_listener: HttpListener,
     answers: u32,
 ) -> (Ended, u32) {
     let stop = AtomicBool::new(false);
@@ -49,7 +49,7 @@ fn serve<R: Wait + Clock>(
         left: answers,
         stop: &stop,
     };
-    let ended = serve_until(rt, rt, alloc, page_listener, &mut greeter, &stop);
+    let ended = serve_until(rt, rt, alloc, http_listener, &mut greeter, &stop);
     (ended, greeter.left)
 }
 
@@ -59,8 +59,8 @@ fn movable<T: Send>(value: T) -> T {
 }
 
 /// Returns a client that has sent these bytes.
-fn peer(rt: &HostRuntime, page_listener: &PageListener, sent: &[u8]) -> io::Result<TcpStream> {
-    let mut stream = TcpStream::connect(rt, page_listener.local_addr()?)?;
+fn peer(rt: &HostRuntime, http_listener: &HttpListener, sent: &[u8]) -> io::Result<TcpStream> {
+    let mut stream = TcpStream::connect(rt, http_listener.local_addr()?)?;
     stream.write_all(sent)?;
     Ok(stream)
 }
@@ -76,12 +76,12 @@ fn received(rt: &HostRuntime, mut peer: TcpStream) -> io::Result<Vec<u8>> {
 /// a server that is asked to stop loses no response.
 #[test]
 fn answers_what_was_sent_at_once(rt: HostRuntime) -> Result<(), Fail> {
-    let page_listener = open_page_listener(&rt, rt.alloc(), 0)?;
-    assert_eq!(rt; page_listener.port(), 0);
-    let mut two = peer(&rt, &page_listener, ASKS)?;
+    let http_listener = open_http_listener(&rt, rt.alloc(), 0)?;
+    assert_eq!(rt; http_listener.port(), 0);
+    let mut two = peer(&rt, &http_listener, ASKS)?;
     two.write_all(ASKS)?;
-    let head = peer(&rt, &page_listener, b"HEAD / HTTP/1.1\r\nHost: h\r\n\r\n")?;
-    let (ended, left) = serve(&rt, rt.alloc(), page_listener, 3);
+    let head = peer(&rt, &http_listener, b"HEAD / HTTP/1.1\r\nHost: h\r\n\r\n")?;
+    let (ended, left) = serve(&rt, rt.alloc(), http_listener, 3);
     assert_eq!(rt; ended, Ended::Stopped);
     assert_eq!(rt; left, 0);
     let answers = received(&rt, two)?;
@@ -98,10 +98,10 @@ fn answers_what_was_sent_at_once(rt: HostRuntime) -> Result<(), Fail> {
 /// A malformed request gets status 400, while a request on another connection is answered.
 #[test]
 fn refuses_what_is_no_request(rt: HostRuntime) -> Result<(), Fail> {
-    let page_listener = open_page_listener(&rt, rt.alloc(), 0)?;
-    let wrong = peer(&rt, &page_listener, b"nothing that HTTP knows\r\n\r\n")?;
-    let good = peer(&rt, &page_listener, ASKS)?;
-    let (ended, _) = serve(&rt, rt.alloc(), movable(page_listener), 1);
+    let http_listener = open_http_listener(&rt, rt.alloc(), 0)?;
+    let wrong = peer(&rt, &http_listener, b"nothing that HTTP knows\r\n\r\n")?;
+    let good = peer(&rt, &http_listener, ASKS)?;
+    let (ended, _) = serve(&rt, rt.alloc(), movable(http_listener), 1);
     assert_eq!(rt; ended, Ended::Stopped);
     let answer = received(&rt, good)?;
     assert_eq!(rt; answer.as_slice(), ANSWER);
@@ -114,14 +114,14 @@ fn refuses_what_is_no_request(rt: HostRuntime) -> Result<(), Fail> {
 /// nothing.
 #[test]
 fn refuses_what_has_no_place(rt: HostRuntime) -> Result<(), Fail> {
-    let page_listener = open_page_listener(&rt, rt.alloc(), 0)?;
-    let first = peer(&rt, &page_listener, ASKS)?;
+    let http_listener = open_http_listener(&rt, rt.alloc(), 0)?;
+    let first = peer(&rt, &http_listener, ASKS)?;
     let mut others = Vec::new(rt.alloc());
-    for _ in 1..PLACES {
-        others.push(peer(&rt, &page_listener, b"")?)?;
+    for _ in 1..MAX_CONNECTIONS {
+        others.push(peer(&rt, &http_listener, b"")?)?;
     }
-    let last = peer(&rt, &page_listener, b"")?;
-    let (ended, _) = serve(&rt, rt.alloc(), page_listener, 1);
+    let last = peer(&rt, &http_listener, b"")?;
+    let (ended, _) = serve(&rt, rt.alloc(), http_listener, 1);
     assert_eq!(rt; ended, Ended::Stopped);
     let answer = received(&rt, first)?;
     assert_eq!(rt; answer.as_slice(), ANSWER);

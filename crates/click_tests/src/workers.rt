@@ -282,14 +282,14 @@ struct Counted<'a, T> {
 }
 
 impl<T: Handlers> Handlers for Counted<'_, T> {
-    fn record(
+    fn step_stored(
         &self,
         running: &mut RunningConfig,
         alloc: Global,
         call: &Call,
         room: Option<PacketRoom>,
     ) -> Result<StoredReply, StepFault> {
-        let reply = self.table.record(running, alloc, call, room);
+        let reply = self.table.step_stored(running, alloc, call, room);
         self.made.fetch_add(1, Ordering::SeqCst);
         reply
     }

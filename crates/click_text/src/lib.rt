@@ -29,7 +29,7 @@ pub use strings::string_len;
 pub use syntax::{Config, Span, TextFault};
 
 /// The maximum length of a configuration, in bytes.
-pub const LONGEST_TEXT: usize = 1_048_576;
+pub const MAX_TEXT_BYTES: usize = 1_048_576;
 
 /// Returns the configuration that a text spells, or its first fault.
 ///
@@ -45,7 +45,7 @@ pub fn parse(alloc: Global, text: &[u8]) -> Result<Config, TextFault>
     ensures err { IfErr result (λ f. IsMemoryOr f (IsAnswered text.now f)) }
     ensures large { longest_text < length text.now → result ≡ Err too_large }
 {
-    if text.len() > LONGEST_TEXT {
+    if text.len() > MAX_TEXT_BYTES {
         return Err(TextFault::too_large());
     }
     let (tokens, ending) = scan(alloc, text)?;

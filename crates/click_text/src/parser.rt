@@ -16,7 +16,7 @@ use click_base::sequence::Sequence;
 use std::alloc::Global;
 
 /// The maximum number of braces that may be open at once.
-pub const MOST_OPEN: usize = 32;
+pub const MAX_OPEN_BRACES: usize = 32;
 
 /// The state of parsing: the tokens that are left, and the bodies that were closed.
 #[derive(Drop)]
@@ -232,7 +232,7 @@ impl<'a> Parser<'a> {
             Stops e (outcome depth s self.old.tokens.items.now) self.new.tokens.items.now) }
         ensures shorter { OnOk result (length self.new.tokens.items.now < length self.old.tokens.items.now) }
     {
-        if depth >= MOST_OPEN {
+        if depth >= MAX_OPEN_BRACES {
             return Err(ParseStop::TooDeep);
         }
         self.tokens.skip();

@@ -8,7 +8,7 @@ use Rattle.click_router.specs.declared.call.Call.TheVariants as call
 use Rattle.click_desk.specs.Closing.{IsEachOnce}
 use Rattle.click_desk.proofs.SeatedEntries.{new_once, same_once}
 use Rattle.click_desk.specs.SeatStates.{DeskName, SeatState, new_seat, seats_below}
-use Rattle.click_control.specs.Peers.{Input, Output}
+use Rattle.click_streams.specs.Peers.{Input, Output}
 use Rattle.click_workers.specs.declared.session.SessionEnd.{SessionEnd}
 use Rattle.click_workers.specs.declared.work.Outcome.{Outcome}
 use Rattle.click_workers.specs.declared.work.Outcome.TheVariants as outcome

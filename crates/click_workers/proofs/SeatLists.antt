@@ -6,7 +6,7 @@ use Rattle.click_control.specs.declared.command.Command.{Command}
 use Rattle.click_control.specs.declared.command.Answer.{Answer}
 use Rattle.click_control.specs.declared.serving.Ended.{Ended}
 use Rattle.click_control.specs.declared.serving.ServeFault.{ServeFault}
-use Rattle.click_control.specs.Peers.{Input, Output}
+use Rattle.click_streams.specs.Peers.{Input, Output}
 use Rattle.click_control.specs.Serving.{call_of, Answered, Asked, nothing, then_one, Course, ServesSo}
 use Rattle.click_workers.specs.Seats.{SameSeat, SeatAsks, made_one, made, SeatServes}
 

@@ -8,7 +8,7 @@ use Rattle.click_router.specs.declared.call.Call.{Call}
 use Rattle.click_router.specs.declared.call.Call.TheVariants as call
 use Rattle.click_router.specs.declared.call.Reply.{Reply}
 use Rattle.click_router.specs.declared.check.Check.{Check}
-use Rattle.click_router.specs.declared.check.Direction.TheVariants as direction
+use Rattle.click_router.specs.declared.check.Access.TheVariants as direction
 use Rattle.click_router.specs.declared.fault.FaultKind.TheVariants as kind
 use Rattle.click_views.specs.Showing.{IsLast}
 use Rattle.click_desk.specs.BookState.{BookState}
@@ -18,7 +18,7 @@ use Rattle.click_desk.specs.SeatStates.{DeskName, SeatState, new_seat}
 use Rattle.click_desk.specs.declared.entry.Entry.{Entry}
 use Rattle.click_desk.specs.declared.open.OpenFault.{OpenFault}
 use Rattle.click_desk.specs.declared.open.OpenFault.TheVariants as refused
-use Rattle.click_control.specs.Peers.{Input, Output}
+use Rattle.click_streams.specs.Peers.{Input, Output}
 use Rattle.click_control.specs.Serving.{NoneRefused, most_reads}
 use Rattle.click_control.specs.declared.serving.Ended.{Ended}
 use Rattle.click_control.specs.declared.serving.ServeFault.{ServeFault}

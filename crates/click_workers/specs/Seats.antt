@@ -13,7 +13,7 @@ use Rattle.click_control.specs.declared.command.Answer.{Answer}
 use Rattle.click_control.specs.declared.command.Answer.TheVariants as answer
 use Rattle.click_control.specs.declared.serving.Ended.{Ended}
 use Rattle.click_control.specs.declared.serving.ServeFault.{ServeFault}
-use Rattle.click_control.specs.Peers.{Input, Output}
+use Rattle.click_streams.specs.Peers.{Input, Output}
 use Rattle.click_control.specs.Serving.{call_of, Course, ServesSo}
 
 -- The seat has the same number, desk and feeds.

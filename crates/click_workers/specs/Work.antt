@@ -6,7 +6,7 @@ use Rattle.click_router.specs.declared.call.Call.TheVariants as call
 use Rattle.click_router.specs.declared.call.Reply.{Reply}
 use Rattle.click_desk.specs.declared.logged_router.DeskFault.{DeskFault}
 use Rattle.click_desk.specs.SeatStates.{DeskName, SeatState, IsRefused, new_seat, seats_below}
-use Rattle.click_control.specs.Peers.{Input, Output}
+use Rattle.click_streams.specs.Peers.{Input, Output}
 use Rattle.click_control.specs.Serving.{Turned, WentThrough, most_reads}
 use Rattle.click_workers.specs.Gates.{Place, place, AsksGate, TellsGate}
 use Rattle.click_workers.specs.Seats.{IsOf, SameSeat, SeatServes}

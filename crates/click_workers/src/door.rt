@@ -1,6 +1,6 @@
 //! The door, through which sessions come in.
 
-use click_control::{Sink, Source};
+use click_streams::{Sink, Source};
 
 /// A source of sessions. The thread of each session enters by itself, and may block there.
 pub trait Door: Sync {

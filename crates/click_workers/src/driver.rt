@@ -5,14 +5,18 @@ ghost use Rattle.click_workers.specs.Seats.{SameSeat};
 ghost use Rattle.click_workers.specs.Work.{Drives, DrivesFor, TakesTurn};
 
 use crate::gate::Gate;
-use crate::pause::Pause;
-use crate::places::Places;
+use crate::open_slots::OpenSlots;
 use click_desk::{Desk, Seat};
+use click_links::Pause;
 use click_router::Handlers;
 use std::sync::Wait;
+use std::thread::Parker;
+
+/// The duration of the first sleep of a driver or a slot, in microseconds.
+pub(crate) const MIN_SLEEP_US: u64 = 20;
 
 /// The maximum duration of the sleep of a driver that finds no work, in microseconds.
-const LONGEST: u64 = 1_000;
+const MAX_DRIVER_SLEEP_US: u64 = 1_000;
 
 /// Makes one Round, the nth of this driver. Returns the number of packets that its tasks emitted or
 /// pulled, or `None` if the gate refused the Round or it failed.
@@ -74,21 +78,23 @@ fn drive_on<T: Handlers, G: Gate, R: Wait>(
     mut seat: Seat<T>,
     gate: &G,
     who: usize,
-    places: &Places,
+    places: &OpenSlots,
 ) -> (bool, Seat<T>)
     requires desk { seat.desk ≡ desk.now }
     requires fresh { seat.calls ≡ [] }
     ensures same { SameSeat seat result.1 }
     ensures drives { (rounds : ℕ) × Drives G.gives G.told gate.now who rounds result.1 result.0 }
 {
-    let mut pause = Pause::up_to(LONGEST);
+    // No thread wakes it, so each sleep takes the full time.
+    let wake = Parker::new();
+    let mut pause = Pause::between(MIN_SLEEP_US, MAX_DRIVER_SLEEP_US);
     for nth in 0..u64::MAX {
         if places.have_ended() {
             return (true, seat);
         }
         match take_turn(rt, desk, &mut seat, gate, who, nth + 1) {
             None => return (false, seat),
-            Some(count) => pause.rest_after(rt, count),
+            Some(count) => pause.rest_after(rt, &wake, count),
         }
     }
     (true, seat)
@@ -103,7 +109,7 @@ pub(crate) fn drive_for<T: Handlers, G: Gate, R: Wait>(
     gate: &G,
     who: usize,
     rounds: Option<u64>,
-    places: &Places,
+    places: &OpenSlots,
 ) -> (bool, Seat<T>)
     requires desk { seat.desk ≡ desk.now }
     requires fresh { seat.calls ≡ [] }

@@ -1,18 +1,17 @@
 //! Sessions, drivers, links and additional work as threads that share one desk.
 #![tactic(auto)]
 
-mod beside;
 mod checking;
 mod clients;
+mod companion;
 mod door;
 mod driver;
 mod gate;
 pub mod laws;
 mod linked;
 mod listening;
+mod open_slots;
 mod opening;
-mod pause;
-mod places;
 mod run_seats;
 mod runs;
 mod seat_group;
@@ -21,14 +20,16 @@ mod service;
 mod session;
 mod work;
 
-pub use beside::{Beside, NothingBeside};
 pub use clients::Clients;
+pub use companion::{Companion, NoCompanion};
 pub use door::Door;
 pub use gate::{Gate, OpenGate};
-pub use linked::{LinkEnd, LinkSetup, LinkedRan, run_linked, run_linked_beside};
+pub use linked::{LinkEnd, LinkSetup, LinkedRan, run_linked, run_linked_with_companion};
 pub use listening::Listening;
 pub use opening::Opening;
-pub use runs::{AllRan, BesideRan, Ran, RunFault, run, run_beside, run_live, run_workers};
+pub use runs::{
+    AllRan, CompanionRan, Ran, RunFault, run, run_live, run_with_companion, run_workers,
+};
 pub use seat_group::SeatGroup;
 pub use seat_port::SeatPort;
-pub use session::{SessionEnd, serve_at};
+pub use session::{SessionEnd, serve_seat};

@@ -13,12 +13,12 @@ ghost use Rattle.click_workers.specs.Runs.{HeadlineWith, IsOpenedFor};
 ghost use Rattle.click_workers.specs.Seats.{IsOf, SameSeat};
 ghost use Rattle.click_workers.specs.Work.{AttendedInTurn, DroveFor, Ready, SideBySide, StayOf, Worked, numbers_below};
 
-use crate::beside::{Beside, NothingBeside};
 use crate::clients::Clients;
+use crate::companion::{Companion, NoCompanion};
 use crate::door::Door;
 use crate::gate::Gate;
 use crate::opening::Opening;
-use crate::run_seats::{OpenedRun, RunSeats, begin, finish, serve_beside};
+use crate::run_seats::{OpenedRun, RunSeats, begin, finish, serve_with_companion};
 use crate::runs::AllRan;
 use crate::seat_group::SeatGroup;
 use crate::service::Service;
@@ -26,7 +26,7 @@ use crate::session::SessionEnd;
 use click_base::sequence::Sequence;
 use click_desk::{Book, Desk, OpenFault, Seat};
 use click_links::{
-    Device, Inbound, LinkParts, Linked, Links, Outbound, Received, Receiving, run_links,
+    Device, Inbound, LinkSet, Links, LinksOutcome, Outbound, Receiver, ReceiverReport, run_links,
 };
 use click_packet::StoredPacket;
 use click_rings::Feed;
@@ -43,7 +43,7 @@ pub struct LinkEnd<L> {
     pub device: Sequence<u8>,
     /// The receiving end of the link.
     pub link: L,
-    pub received: Received,
+    pub received: ReceiverReport,
     /// The packets that came over the link and did not enter the router. `None` if there was no
     /// memory to list them.
     pub left: Option<Vec<StoredPacket>>,
@@ -78,17 +78,17 @@ fn serve_linked<
     G: Gate,
     L: Inbound + Send + Drop,
     S: Outbound + Send + Drop,
-    B: Beside<T>,
+    B: Companion<T>,
     R: Threads + Wait + Sync,
 >(
     rt: &R,
     alloc: Global,
     desk: &Desk<T, &R>,
     clients: Clients<D, G>,
-    wires: LinkParts<L, S>,
+    wires: LinkSet<L, S>,
     beside: B,
     run_seats: RunSeats<T, (Seat<T>, B::Seats)>,
-) -> (Linked<T, L, S>, (RunSeats<T, B::Seats>, B::Done))
+) -> (LinksOutcome<T, L, S>, (RunSeats<T, B::Seats>, B::Done))
     requires ready { Ready desk.now clients.places (vec_len run_seats.work.seats) run_seats.work.seats.items run_seats.work.ended.items run_seats.work.drivers.items (vec_capacity run_seats.work.ended) (vec_capacity run_seats.work.drivers) }
     requires turns { 0 < clients.turns }
     requires forwarder { run_seats.beside.0.desk ≡ desk.now }
@@ -100,14 +100,14 @@ fn serve_linked<
     ensures room { vec_capacity run_seats.work.seats ≤ vec_capacity result.1.0.work.seats }
     ensures beside { AllZip SameSeat (B.Seats.sittings run_seats.beside.1) (B.Seats.sittings result.1.0.beside) }
     ensures does { B.does beside run_seats.beside.1 result.1.0.beside result.1.1 }
-    ensures receives { AllZip (λ old new. (new.device ≡ old.device) × Receives (L.came old.link) (L.came new.link) old.intake new.intake new.received.dropped) wires.entry.receivers.items result.0.links.items }
+    ensures receives { AllZip (λ old new. (new.device ≡ old.device) × Receives (L.received old.link) (L.received new.link) old.intake new.intake new.received.dropped) wires.entry.receivers.items result.0.links.items }
     ensures same { SameSeat run_seats.beside.0 result.0.seat }
-    ensures forwards { Forwards (names_of wires.entry.devices.now) run_seats.beside.0.calls result.0.seat.calls (S.tried wires.entry.sender) (S.tried result.0.sender) }
+    ensures forwards { Forwards (names_of wires.entry.devices.now) run_seats.beside.0.calls result.0.seat.calls (S.attempts wires.entry.sender) (S.attempts result.0.sender) }
 {
     let stop = &AtomicBool::new(false);
     let service = &Service::of(alloc, &clients, None);
     let Clients { door, gate, .. } = clients;
-    let LinkParts {
+    let LinkSet {
         devices,
         receivers,
         sender,
@@ -122,13 +122,13 @@ fn serve_linked<
     };
     thread::join(
         rt,
-        move || -> Linked<T, L, S>
+        move || -> LinksOutcome<T, L, S>
             requires { IsSync R.row × IsSend L.row × IsSend S.row × IsSend T.row × (forwarder.desk ≡ desk.now) × (vec_len receivers ≤ length devices.now) }
-            ensures { AllZip (λ old new. (new.device ≡ old.device) × Receives (L.came old.link) (L.came new.link) old.intake new.intake new.received.dropped) receivers.items result.links.items
+            ensures { AllZip (λ old new. (new.device ≡ old.device) × Receives (L.received old.link) (L.received new.link) old.intake new.intake new.received.dropped) receivers.items result.links.items
                 × SameSeat forwarder result.seat
-                × Forwards (names_of devices.entry.now) forwarder.calls result.seat.calls (S.tried sender) (S.tried result.sender) }
+                × Forwards (names_of devices.entry.now) forwarder.calls result.seat.calls (S.attempts sender) (S.attempts result.sender) }
         {
-            let wires = LinkParts {
+            let wires = LinkSet {
                 devices,
                 receivers,
                 sender,
@@ -144,7 +144,7 @@ fn serve_linked<
                 × (vec_capacity run_seats.work.seats ≤ vec_capacity result.0.work.seats)
                 × AllZip SameSeat (B.Seats.sittings run_seats.beside) (B.Seats.sittings result.0.beside) × B.does beside run_seats.beside result.0.beside result.1 }
         {
-            let served = serve_beside(rt, desk, door, gate, service, beside, run_seats);
+            let served = serve_with_companion(rt, desk, door, gate, service, beside, run_seats);
             stop.store(true, Ordering::SeqCst);
             served
         },
@@ -175,7 +175,7 @@ fn left_of<T>(
 }
 
 /// Settles the feed of a link.
-fn settle_one<T, L>(alloc: Global, book: &mut Book<T>, receiver: Receiving<L>) -> LinkEnd<L>
+fn settle_one<T, L>(alloc: Global, book: &mut Book<T>, receiver: Receiver<L>) -> LinkEnd<L>
     requires { HasRing book.old.consumers receiver.device receiver.intake.feed.ring }
     ensures book { book.new ≡ record book.old { consumers = book.new.consumers } }
     ensures others { (other : List ℕ) (ring : RingName) → (other ≡ receiver.device → ⊥) → HasRing book.old.consumers other ring → HasRing book.new.consumers other ring }
@@ -183,7 +183,7 @@ fn settle_one<T, L>(alloc: Global, book: &mut Book<T>, receiver: Receiving<L>) -
     ensures same { (result.device ≡ receiver.device) × (result.link ≡ receiver.link) × (result.received ≡ receiver.received) }
     ensures left { IsSettled book.old.entries receiver.device receiver.intake.feed.put (option_map (λ l. l.items) result.left) }
 {
-    let Receiving {
+    let Receiver {
         device,
         intake,
         link,
@@ -202,7 +202,7 @@ fn settle_one<T, L>(alloc: Global, book: &mut Book<T>, receiver: Receiving<L>) -
 fn settle_all<T, L: Drop>(
     alloc: Global,
     book: &mut Book<T>,
-    receivers: Vec<Receiving<L>>,
+    receivers: Vec<Receiver<L>>,
     ends: &mut Vec<LinkEnd<L>>,
 )
     requires feeds { All (λ r. HasRing book.old.consumers r.device r.intake.feed.ring) receivers.items }
@@ -221,7 +221,7 @@ fn settle_all<T, L: Drop>(
 fn settle<T: Drop, L: Drop, S>(
     alloc: Global,
     all: AllRan<T>,
-    receivers: Vec<Receiving<L>>,
+    receivers: Vec<Receiver<L>>,
     sender: S,
     mut links: Vec<LinkEnd<L>>,
 ) -> LinkedRan<T, L, S>
@@ -255,7 +255,7 @@ fn close_and_settle<T: Send + Drop, L: Drop, S, H: SeatGroup<T>, R: Wait>(
     alloc: Global,
     desk: Desk<T, &R>,
     run_seats: RunSeats<T, H>,
-    linked: Linked<T, L, S>,
+    linked: LinksOutcome<T, L, S>,
     links: Vec<LinkEnd<L>>,
 ) -> LinkedRan<T, L, S>
     requires of { All (IsOf desk (map (λ r. record { device = r.device; ring = r.intake.feed.ring }) linked.links.items)) (run_seats.work.seats.items ++ linked.seat ∷ H.sittings run_seats.beside) }
@@ -270,7 +270,7 @@ fn close_and_settle<T: Send + Drop, L: Drop, S, H: SeatGroup<T>, R: Wait>(
     ensures rest { (result.ended.items ≡ run_seats.work.ended.items) × (result.drivers.items ≡ run_seats.work.drivers.items) × (result.sender ≡ linked.sender) }
 {
     let RunSeats { work, beside } = run_seats;
-    let Linked {
+    let LinksOutcome {
         links: receivers,
         seat,
         sender,
@@ -295,13 +295,13 @@ fn close_and_settle<T: Send + Drop, L: Drop, S, H: SeatGroup<T>, R: Wait>(
 /// are sent, if the additional work makes no Transmit.
 ///
 /// If no thread can be created, the links begin when they are already requested to stop.
-pub fn run_linked_beside<
+pub fn run_linked_with_companion<
     T: Handlers + Send + Drop,
     D: Door,
     G: Gate,
     L: Inbound + Send + Drop,
     S: Outbound + Send + Drop,
-    B: Beside<T>,
+    B: Companion<T>,
     R: Threads + Wait + Sync,
 >(
     rt: &R,
@@ -317,12 +317,12 @@ pub fn run_linked_beside<
     requires devices { names_of linking.devices.now ≡ map (λ r. r.device) linking.links.receivers.items }
     ensures headline { IfOk result (λ ran. LinkedHeadline (names_of linking.entry.devices.now) text.now (clients.entry.places + clients.entry.workers + (1 + B.Seats.many)) ran.0.book) }
     ensures work { IfOk result (λ ran. BesideWork (λ s. s.0 ∷ B.Seats.sittings s.1) (1 + B.Seats.many)
-        (ForwardsBeside (names_of linking.entry.devices.now) (S.tried linking.entry.sender) (S.tried ran.0.sender) (B.does beside))
+        (ForwardsBeside (names_of linking.entry.devices.now) (S.attempts linking.entry.sender) (S.attempts ran.0.sender) (B.does beside))
         (AttendedInTurn D.lets_in D.Reader.input D.Writer.output G.gives G.told clients.entry.door.now clients.entry.gate.now clients.entry.readonly clients.entry.turns)
         (DroveFor G.gives G.told clients.entry.gate.now None) clients.entry.places clients.entry.workers ran.0.book.seats ran.0.ended.items ran.0.drivers.items ran.1) }
     ensures sent { IfOk result (λ ran. AreQuietFrom (clients.entry.places + clients.entry.workers + 1) ran.0.book.seats → (device : List ℕ)
-        → sent_by device (S.tried ran.0.sender) ≡ sent_by device (S.tried linking.entry.sender) ++ gifts_by device (calls_in ran.0.book.entries)) }
-    ensures links { IfOk result (λ ran. SideBySide (λ r e. (e.device ≡ r.device) × LinkRan ran.0.book.entries r.device (L.came r.link) (L.came e.link) e.received.dropped (option_map (λ l. l.items) e.left))
+        → sent_by device (S.attempts ran.0.sender) ≡ sent_by device (S.attempts linking.entry.sender) ++ gifts_by device (calls_in ran.0.book.entries)) }
+    ensures links { IfOk result (λ ran. SideBySide (λ r e. (e.device ≡ r.device) × LinkRan ran.0.book.entries r.device (L.received r.link) (L.received e.link) e.received.dropped (option_map (λ l. l.items) e.left))
         linking.entry.links.receivers.items ran.0.links.items) }
     ensures config { IfErr result (IsTrueOpening (clients.entry.places + clients.entry.workers + (1 + B.Seats.many)) (names_of linking.entry.devices.now) text.now) }
 {
@@ -356,7 +356,7 @@ pub fn run_linked_beside<
         Ok(begun) => begun,
         Err(fault) => return Err(fault),
     };
-    let wires = LinkParts {
+    let wires = LinkSet {
         devices,
         receivers,
         sender,
@@ -399,13 +399,13 @@ pub fn run_linked<
     requires devices { names_of linking.devices.now ≡ map (λ r. r.device) linking.links.receivers.items }
     ensures headline { IfOk result (λ ran. LinkedHeadline (names_of linking.entry.devices.now) text.now (clients.entry.places + clients.entry.workers + 1) ran.book) }
     ensures worked { IfOk result (λ ran. LinkedWork (AttendedInTurn D.lets_in D.Reader.input D.Writer.output G.gives G.told clients.entry.door.now clients.entry.gate.now clients.entry.readonly clients.entry.turns)
-        (DroveFor G.gives G.told clients.entry.gate.now None) clients.entry.places clients.entry.workers (names_of linking.entry.devices.now) (S.tried linking.entry.sender) (S.tried ran.sender) ran.book.seats ran.ended.items ran.drivers.items) }
-    ensures sent { IfOk result (λ ran. (device : List ℕ) → sent_by device (S.tried ran.sender) ≡ sent_by device (S.tried linking.entry.sender) ++ gifts_by device (calls_in ran.book.entries)) }
-    ensures links { IfOk result (λ ran. SideBySide (λ r e. (e.device ≡ r.device) × LinkRan ran.book.entries r.device (L.came r.link) (L.came e.link) e.received.dropped (option_map (λ l. l.items) e.left))
+        (DroveFor G.gives G.told clients.entry.gate.now None) clients.entry.places clients.entry.workers (names_of linking.entry.devices.now) (S.attempts linking.entry.sender) (S.attempts ran.sender) ran.book.seats ran.ended.items ran.drivers.items) }
+    ensures sent { IfOk result (λ ran. (device : List ℕ) → sent_by device (S.attempts ran.sender) ≡ sent_by device (S.attempts linking.entry.sender) ++ gifts_by device (calls_in ran.book.entries)) }
+    ensures links { IfOk result (λ ran. SideBySide (λ r e. (e.device ≡ r.device) × LinkRan ran.book.entries r.device (L.received r.link) (L.received e.link) e.received.dropped (option_map (λ l. l.items) e.left))
         linking.entry.links.receivers.items ran.links.items) }
     ensures config { IfErr result (IsTrueOpening (clients.entry.places + clients.entry.workers + 1) (names_of linking.entry.devices.now) text.now) }
 {
-    match run_linked_beside(rt, alloc, table, text, clients, linking, NothingBeside) {
+    match run_linked_with_companion(rt, alloc, table, text, clients, linking, NoCompanion) {
         Ok((ran, ())) => Ok(ran),
         Err(fault) => Err(fault),
     }

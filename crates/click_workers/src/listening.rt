@@ -1,7 +1,7 @@
 //! A door for sessions over TCP.
 
 use crate::door::Door;
-use click_control::{Reading, Writing};
+use click_streams::{Reading, Writing};
 use std::net::{TcpListener, TcpStream};
 
 /// A door that accepts one TCP connection for each session. Nothing is promised about the peer.

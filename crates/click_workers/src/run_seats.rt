@@ -10,8 +10,8 @@ ghost use Rattle.click_workers.specs.Runs.{HeadlineWith, IsChecked, IsOpenedFor,
 ghost use Rattle.click_workers.specs.Seats.{IsOf, SameSeat};
 ghost use Rattle.click_workers.specs.Work.{AttendedInTurn, DroveFor, Ready, StayOf, Worked, numbers_below};
 
-use crate::beside::Beside;
 use crate::checking::{Asked, close_and_check};
+use crate::companion::Companion;
 use crate::door::Door;
 use crate::gate::Gate;
 use crate::opening::{Opened, Opening, open_with};
@@ -98,11 +98,11 @@ pub(crate) fn begin<'a, 'b, T: Drop, H: SeatGroup<T>, R: Wait>(
 
 /// Serves the sessions and runs the drivers, with the additional work in parallel. Requests the
 /// additional work to stop once every slot has served its sessions and every driver has ended.
-pub(crate) fn serve_beside<
+pub(crate) fn serve_with_companion<
     T: Handlers + Send + Drop,
     D: Door,
     G: Gate,
-    B: Beside<T>,
+    B: Companion<T>,
     R: Threads + Wait + Sync,
 >(
     rt: &R,

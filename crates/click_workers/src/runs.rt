@@ -6,26 +6,27 @@ ghost use Rattle.click_workers.specs.Beside.{BesideWork};
 ghost use Rattle.click_workers.specs.Work.{Attended, AttendedInTurn, Drove, DroveFor, Worked};
 ghost use Rattle.click_workers.specs.Runs.{Headline, HeadlineFor, IsOpenedFor, IsOpenedWith, DriversRound, RanOver, IsChecked, IsTrueFault, IsNoClose, IsViewAsked, IsLate};
 
-use crate::beside::{Beside, NothingBeside};
 use crate::checking::close_and_check;
 use crate::clients::Clients;
+use crate::companion::{Companion, NoCompanion};
 use crate::door::Door;
 use crate::gate::Gate;
 use crate::opening::{Opened, Opening, open_with};
-use crate::run_seats::{OpenedRun, begin, finish, serve_beside};
+use crate::run_seats::{OpenedRun, begin, finish, serve_with_companion};
 use crate::seat_port::SeatPort;
 use crate::service::Service;
-use crate::session::{SessionEnd, serve_alone};
-use click_control::{Ended, ServeFault, Sink, Source};
+use crate::session::{SessionEnd, serve_ungated};
+use click_control::{Ended, ServeFault};
 use click_desk::{Book, OpenFault};
 use click_router::{Check, ConfigFault, Handlers};
+use click_streams::{Sink, Source};
 use std::alloc::Global;
 use std::sync::Wait;
 use std::thread::Threads;
 use thiserror::Error;
 
 /// The maximum number of entries of a book's history.
-const ROOM: usize = 1_048_576;
+const MAX_ENTRIES: usize = 1_048_576;
 
 /// The fault of a run that has no book.
 #[derive(Debug, Drop, Error)]
@@ -56,7 +57,7 @@ pub struct AllRan<T> {
 /// The outcomes of the session slots and drivers, with the book. `done` is the result of the
 /// additional work.
 #[derive(Drop)]
-pub struct BesideRan<T, X> {
+pub struct CompanionRan<T, X> {
     pub all: AllRan<T>,
     pub done: X,
 }
@@ -134,7 +135,7 @@ fn serve_and_close<T: Handlers + Drop, S: Source, W: Sink, R: Wait>(
         unreachable!()
     };
     let port = SeatPort::new(rt, &desk, seat);
-    let (ended, seat) = serve_alone(alloc, port, reader, writer, readonly);
+    let (ended, seat) = serve_ungated(alloc, port, reader, writer, readonly);
     seats.push_reserved(seat);
     let (book, checked) = close_and_check(rt, desk, seats, asked);
     Ran {
@@ -169,7 +170,7 @@ pub fn run<T: Handlers + Drop, S: Source, W: Sink, R: Wait>(
 {
     let opening = Opening {
         text,
-        room: Some(ROOM),
+        room: Some(MAX_ENTRIES),
         check,
     };
     let opened = match open_one(rt, alloc, table, opening) {
@@ -190,11 +191,11 @@ pub fn run<T: Handlers + Drop, S: Source, W: Sink, R: Wait>(
 /// number one less. The seats of the additional work follow.
 ///
 /// If no thread can be created, the additional work begins when it is already requested to stop.
-pub fn run_beside<
+pub fn run_with_companion<
     T: Handlers + Send + Drop,
     D: Door,
     G: Gate,
-    B: Beside<T>,
+    B: Companion<T>,
     R: Threads + Wait + Sync,
 >(
     rt: &R,
@@ -204,7 +205,7 @@ pub fn run_beside<
     clients: Clients<D, G>,
     rounds: Option<u64>,
     beside: B,
-) -> Result<BesideRan<T, B::Done>, RunFault>
+) -> Result<CompanionRan<T, B::Done>, RunFault>
     requires many { (0 < clients.places + clients.workers) × (clients.places + clients.workers + B.Seats.many ≤ 256) }
     requires turns { 0 < clients.turns }
     ensures headline { IfOk result (λ ran. HeadlineFor opening.entry.room opening.entry.text.now (clients.entry.places + clients.entry.workers + B.Seats.many) ran.all.book) }
@@ -235,9 +236,9 @@ pub fn run_beside<
     };
     let service = &Service::of(alloc, &clients, rounds);
     let Clients { door, gate, .. } = clients;
-    let (run_seats, done) = serve_beside(rt, &desk, door, gate, service, beside, run_seats);
+    let (run_seats, done) = serve_with_companion(rt, &desk, door, gate, service, beside, run_seats);
     let all = finish(rt, desk, run_seats, asked);
-    Ok(BesideRan { all, done })
+    Ok(CompanionRan { all, done })
 }
 
 /// Runs session slots and drivers, without additional work.
@@ -260,9 +261,9 @@ fn run_alone<T: Handlers + Send + Drop, D: Door, G: Gate, R: Threads + Wait + Sy
     ensures never_close { IfErr result IsNoClose }
     ensures view_asked { IfErr result (IsViewAsked (option_map (λ n. n.now) opening.entry.check)) }
 {
-    match run_beside(rt, alloc, table, opening, clients, rounds, NothingBeside) {
+    match run_with_companion(rt, alloc, table, opening, clients, rounds, NoCompanion) {
         Ok(ran) => {
-            let BesideRan { all, done: _ } = ran;
+            let CompanionRan { all, done: _ } = ran;
             Ok(all)
         }
         Err(fault) => Err(fault),
@@ -300,7 +301,7 @@ pub fn run_workers<T: Handlers + Send + Drop, D: Door, G: Gate, R: Threads + Wai
 {
     let opening = Opening {
         text,
-        room: Some(ROOM),
+        room: Some(MAX_ENTRIES),
         check,
     };
     let clients = Clients {

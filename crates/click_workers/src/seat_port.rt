@@ -54,8 +54,8 @@ impl<'a, T: Handlers, R: Wait, B: Wait + Drop> Port for SeatPort<'a, T, R, B> {
 
     ghost asks = { SeatAsks };
 
-    fn record(&mut self, _alloc: Global, call: Call) -> Result<StoredReply, AskFault> {
-        match self.desk.record(self.rt, &mut self.seat, call) {
+    fn ask_stored(&mut self, _alloc: Global, call: Call) -> Result<StoredReply, AskFault> {
+        match self.desk.call_stored(self.rt, &mut self.seat, call) {
             Ok(reply) => Ok(reply),
             Err(DeskFault::NoMemory) => Err(AskFault::NoMemory),
             Err(DeskFault::HistoryFull) => Err(AskFault::HistoryFull),

@@ -3,7 +3,7 @@
 ghost use Rattle.std.specs.Prelude.{◌≡◌};
 
 use crate::clients::Clients;
-use crate::places::Places;
+use crate::open_slots::OpenSlots;
 use std::alloc::Global;
 
 /// What each session slot and each driver of a run needs besides its door and its gate.
@@ -19,7 +19,7 @@ pub(crate) struct Service {
     /// sessions.
     pub(crate) rounds: Option<u64>,
     /// The slots that are still serving.
-    pub(crate) places: Places,
+    pub(crate) places: OpenSlots,
 }
 
 impl Service {
@@ -33,7 +33,7 @@ impl Service {
             sessions: clients.places,
             turns: clients.turns,
             rounds,
-            places: Places::new(clients.places),
+            places: OpenSlots::new(clients.places),
         }
     }
 }

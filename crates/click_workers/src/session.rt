@@ -6,21 +6,24 @@ ghost use Rattle.click_workers.specs.Seats.{SameSeat, SeatServes};
 ghost use Rattle.click_workers.specs.Work.{Attends, InTurn};
 
 use crate::door::Door;
+use crate::driver::MIN_SLEEP_US;
 use crate::gate::{AtGate, Gate};
-use crate::pause::Pause;
 use crate::seat_port::SeatPort;
 use crate::service::Service;
-use click_control::{Ended, ServeFault, Sink, Source, Turns, serve, serve_turns};
+use click_control::{Ended, MAX_READS, ServeFault, Turns, serve, serve_turns};
 use click_desk::{Desk, Seat};
+use click_links::Pause;
 use click_router::Handlers;
+use click_streams::{Sink, Source};
 use std::alloc::Global;
 use std::sync::Wait;
+use std::thread::Parker;
 
 /// Serves a session over a seat of the desk. Returns how it ended, and the seat.
 ///
 /// The seat's list grows by exactly the calls that did not fail (out of memory or history full),
 /// with their replies.
-pub fn serve_at<T: Handlers, S: Source, W: Sink, G: Turns, R: Wait, B: Wait + Drop>(
+pub fn serve_seat<T: Handlers, S: Source, W: Sink, G: Turns, R: Wait, B: Wait + Drop>(
     alloc: Global,
     mut port: SeatPort<T, R, B>,
     reader: &mut S,
@@ -36,8 +39,8 @@ pub fn serve_at<T: Handlers, S: Source, W: Sink, G: Turns, R: Wait, B: Wait + Dr
     (ended, port.into_seat())
 }
 
-/// Serves a session as `serve_at` does, without a gate and with the maximum number of reads.
-pub(crate) fn serve_alone<T: Handlers, S: Source, W: Sink, R: Wait, B: Wait + Drop>(
+/// Serves a session as `serve_seat` does, without a gate and with the maximum number of reads.
+pub(crate) fn serve_ungated<T: Handlers, S: Source, W: Sink, R: Wait, B: Wait + Drop>(
     alloc: Global,
     mut port: SeatPort<T, R, B>,
     reader: &mut S,
@@ -59,11 +62,8 @@ pub enum SessionEnd {
     Served(Result<Ended, ServeFault>),
 }
 
-/// The maximum number of reads of a session.
-const MOST_READS: u32 = 4_294_967_295;
-
 /// Lets one session in through the door, under the number `who`, and serves it over the seat.
-fn attend<T: Handlers, D: Door, G: Gate, R: Wait>(
+fn serve_entrant<T: Handlers, D: Door, G: Gate, R: Wait>(
     rt: &R,
     desk: &Desk<T, &R>,
     door: &D,
@@ -80,27 +80,27 @@ fn attend<T: Handlers, D: Door, G: Gate, R: Wait>(
         return (SessionEnd::NoEntry, seat);
     };
     let mut turns = AtGate::new(gate, who);
-    let (ended, seat) = serve_at(
+    let (ended, seat) = serve_seat(
         service.alloc,
         SeatPort::new(rt, desk, seat),
         &mut reader,
         &mut writer,
         service.readonly,
         &mut turns,
-        MOST_READS,
+        MAX_READS,
     );
     (SessionEnd::Served(ended), seat)
 }
 
 /// The maximum duration of the sleep of a slot after a session was not let in, in microseconds.
-const LONGEST: u64 = 100_000;
+const MAX_DOOR_SLEEP_US: u64 = 100_000;
 
 /// Lets `service.turns` sessions in, one after another, and serves each over the seat. Returns how
 /// the last one ended.
 ///
 /// If a session is not let in, sleeps before the next one. Finally records that this slot has
 /// served all its sessions.
-pub(crate) fn attend_in_turn<T: Handlers, D: Door, G: Gate, R: Wait>(
+pub(crate) fn serve_slot<T: Handlers, D: Door, G: Gate, R: Wait>(
     rt: &R,
     desk: &Desk<T, &R>,
     door: &D,
@@ -114,14 +114,16 @@ pub(crate) fn attend_in_turn<T: Handlers, D: Door, G: Gate, R: Wait>(
     ensures same { SameSeat seat result.1 }
     ensures attends { InTurn (Attends D.lets_in D.Reader.input D.Writer.output G.gives G.told door.now gate.now service.now.readonly who) service.now.turns seat result.1 result.0 }
 {
-    let mut pause = Pause::up_to(LONGEST);
-    let (mut last, mut seat) = attend(rt, desk, door, gate, service, seat, who);
+    // No thread wakes it, so each sleep takes the full time.
+    let wake = Parker::new();
+    let mut pause = Pause::between(MIN_SLEEP_US, MAX_DOOR_SLEEP_US);
+    let (mut last, mut seat) = serve_entrant(rt, desk, door, gate, service, seat, who);
     for nth in 1..service.turns {
         match last {
-            SessionEnd::NoEntry => pause.sleep(rt),
+            SessionEnd::NoEntry => pause.sleep(rt, &wake),
             SessionEnd::Served(_) => pause.begin_anew(),
         }
-        let (end, left) = attend(rt, desk, door, gate, service, seat, who);
+        let (end, left) = serve_entrant(rt, desk, door, gate, service, seat, who);
         last = end;
         seat = left;
     }

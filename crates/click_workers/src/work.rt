@@ -10,7 +10,7 @@ use crate::door::Door;
 use crate::driver::drive_for;
 use crate::gate::Gate;
 use crate::service::Service;
-use crate::session::{SessionEnd, attend_in_turn};
+use crate::session::{SessionEnd, serve_slot};
 use click_desk::{Desk, Seat};
 use click_router::Handlers;
 use std::sync::Wait;
@@ -100,7 +100,7 @@ fn work_one<T: Handlers, D: Door, G: Gate, R: Wait>(
         let (all, seat) = drive_for(rt, desk, seat, gate, who, service.rounds, &service.places);
         (Outcome::Drove(all), seat)
     } else {
-        let (end, seat) = attend_in_turn(rt, desk, door, gate, service, seat, who);
+        let (end, seat) = serve_slot(rt, desk, door, gate, service, seat, who);
         (Outcome::Attended(end), seat)
     }
 }

@@ -31,10 +31,10 @@ pub struct Pattern {
 }
 
 /// The maximum number of digits of a clause.
-const MOST_DIGITS: usize = 128;
+const MAX_PATTERN_DIGITS: usize = 128;
 
 /// The digits of a mask in which every bit counts.
-const FULL_MASK: [u8; MOST_DIGITS] = [b'f'; MOST_DIGITS];
+const FULL_MASK: [u8; MAX_PATTERN_DIGITS] = [b'f'; MAX_PATTERN_DIGITS];
 
 /// Returns whether the byte is a hexadecimal digit or `?`.
 fn is_pattern_digit(byte: u8) -> bool
@@ -54,7 +54,7 @@ fn are_digits(digits: &[u8]) -> bool
     ensures { result ≡ are_digits digits.now }
 {
     let len = digits.len();
-    len % 2 == 0 && 2 <= len && len <= MOST_DIGITS && all_pattern_digits(digits)
+    len % 2 == 0 && 2 <= len && len <= MAX_PATTERN_DIGITS && all_pattern_digits(digits)
 }
 
 /// Returns whether the mask has as many digits as the clause, all hexadecimal.
@@ -126,7 +126,7 @@ fn clause_of(
 fn full_clause(alloc: Global, negated: bool, offset: u16, digits: &[u8]) -> Result<Clause, ArgFault>
     ensures { IsOrNoMemory (clause_of negated offset digits.now (replicate (length digits.now) 102)) result }
 {
-    if digits.len() > MOST_DIGITS {
+    if digits.len() > MAX_PATTERN_DIGITS {
         return Err(ArgFault::BadEntry);
     }
     clause_of(alloc, negated, offset, digits, &FULL_MASK[..digits.len()])

@@ -13,13 +13,9 @@ use Rattle.click_control.specs.declared.serving.ServeFault.{ServeFault}
 use Rattle.click_control.specs.declared.serving.ServeFault.TheVariants as fault
 use Rattle.click_control.specs.Commands.{commands}
 use Rattle.click_control.specs.Taking.{Pending, fed, to_come}
-use Rattle.click_control.specs.Peers.{Input, Output, HasRead, HasWritten}
+use Rattle.click_streams.specs.Peers.{Input, Output, HasRead, HasWritten, WroteFront}
 use Rattle.click_control.specs.ReplyText.{greeting}
 use Rattle.click_control.specs.Serving.{Asked, replies, GoesOn, Turned, ServesTurns}
-
--- a prefix of the text was written
-abbrev pub WroteFront : Output → Output → List ℕ → Bool → Type 0
-WroteFront held holds text failed = (front : List ℕ) × (rest : List ℕ) × (text ≡ front ++ rest) × HasWritten held holds front failed
 
 -- The text was written in full, or a prefix of it up to a fault.
 abbrev pub Written : {T : Type 0} → Result T ServeFault → Output → Output → List ℕ → Type 0

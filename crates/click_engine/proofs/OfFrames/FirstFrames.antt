@@ -77,8 +77,8 @@ module _ (old : TransferStack) (d : ℕ) (xs : List PushFrame) (ys : List PullFr
   -- a pull began, and its first engine turn was made
   module _ (net : Wiring) (w v : RunState) (at : ℕ) (s : PushFrame) (rep : PullResult) (over : Reached net w v at 0 s.packet rep) (fits : w.left < old.room) (inside : d ≤ length xs) (first : 0 < length xs) where
     pub pulled_ended : rep.count ≡ 0
-        → Follows net w (transfer_stack (Pulls at 0 ∷ []) None old.room) v (transfer_stack (frames_of (take d (set xs 0 s)) ys) (last_of rep.held (set xs 0 s)) r)
-    pulled_ended none = rw (held inside first s rep.held) (of_turn net w v _ _ (pulls_ended net w v [] old.room s.packet rep None at 0 over none (omega (arith, fits))))
+        → Follows net w (transfer_stack (Pulls at 0 ∷ []) None old.room) v (transfer_stack (frames_of (take d (set xs 0 s)) ys) (last_of rep.is_answered (set xs 0 s)) r)
+    pulled_ended none = rw (held inside first s rep.is_answered) (of_turn net w v _ _ (pulls_ended net w v [] old.room s.packet rep None at 0 over none (omega (arith, fits))))
 
     -- the inputs of the element that the pull led to are asked at once
     pub pulled_further : (u : RunState) (new : TransferStack) → 0 < rep.count → Follows net v (transfer_stack (Asks rep.at rep.inputs rep.count rep.first 0 ∷ []) None r) u new

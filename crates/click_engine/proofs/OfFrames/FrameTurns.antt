@@ -153,16 +153,16 @@ module _ (net : Wiring) where
 
   module _ (w v : RunState) (below : List Frame) (r : ℕ) (q : Packet) (rep : PullResult) where
     reached-none : (at input : ℕ) → Reached net w v at input q rep → rep.count ≡ 0
-        → left_with v (if rep.held then Some q else None) ≡ pull net w.left w at input
+        → left_with v (if rep.is_answered then Some q else None) ≡ pull net w.left w at input
     reached-none at input over none =
-        replied rep.held v q _ (ask-zero (λ u i. pull net v.left u rep.at i) (λ u i p. given net v.left rep.at u i p) rep.inputs rep.count rep.first v none) ∙ over.made
+        replied rep.is_answered v q _ (ask-zero (λ u i. pull net v.left u rep.at i) (λ u i p. given net v.left rep.at u i p) rep.inputs rep.count rep.first v none) ∙ over.made
 
     reached-more : (at input : ℕ) → Reached net w v at input q rep → 0 < rep.count
         → asked net v.left rep.at rep.inputs rep.count rep.first v ≡ pull net w.left w at input
     reached-more at input over more = let alone = over.alone more in rw alone at over.made
 
     pub pulls_ended : (a : Option Packet) (at input : ℕ) → Reached net w v at input q rep → rep.count ≡ 0 → length (Pulls at input ∷ below) + w.left ≤ r
-        → IsTurn net w (transfer_stack (Pulls at input ∷ below) a r) v (transfer_stack below (if rep.held then Some q else None) r)
+        → IsTurn net w (transfer_stack (Pulls at input ∷ below) a r) v (transfer_stack below (if rep.is_answered then Some q else None) r)
     pulls_ended a at input over none h = record {
       keeps = ap (λ u. finish net below u) (reached-none at input over none);
       step = ended (Pulls at input) below refl tt refl;
@@ -196,7 +196,7 @@ module _ (net : Wiring) where
       asks-over = sym (asks-next w at ins count (count - 1) input back (omega arith))
 
       pub asks_moved : rep.count ≡ 0 → length (first_asks ∷ below) + w.left ≤ r
-          → IsTurn net w (transfer_stack (first_asks ∷ below) None r) v (transfer_stack (next_asks ∷ below) (if rep.held then Some q else None) r)
+          → IsTurn net w (transfer_stack (first_asks ∷ below) None r) v (transfer_stack (next_asks ∷ below) (if rep.is_answered then Some q else None) r)
       asks_moved none h = record {
         keeps = ap (λ u. finish net below (resume net next_asks u)) (reached-none at input over none) ∙ ap (λ u. finish net below u) asks-over;
         step = moved first_asks below refl refl;

@@ -103,14 +103,14 @@ module _ (net : Wiring) (w v : RunState) (f : Frame) (old : TransferStack) (d : 
     before_pull = rw (← is) (before (last_of got xs) refl)
 
     pub pull_ended : (zs : List PullFrame) → zs ≡ take (n - 1) ys → rep.count ≡ 0
-        → IsTurn net w old v (transfer_stack (frames_of (take d (set xs 0 s)) zs) (last_of rep.held (set xs 0 s)) r)
+        → IsTurn net w old v (transfer_stack (frames_of (take d (set xs 0 s)) zs) (last_of rep.is_answered (set xs 0 s)) r)
     pull_ended zs e c =
-        turn_at net w v old _ (Pulls at input ∷ below) below (last_of got xs) (if rep.held then Some s.packet else None) r before_pull
-        (transfer_stack_is _ _ _ _ r (alone (set xs 0 s) zs below (ap (λ ts. frames_of [] ts) e)) (last-held rep.held xs s first))
+        turn_at net w v old _ (Pulls at input ∷ below) below (last_of got xs) (if rep.is_answered then Some s.packet else None) r before_pull
+        (transfer_stack_is _ _ _ _ r (alone (set xs 0 s) zs below (ap (λ ts. frames_of [] ts) e)) (last-held rep.is_answered xs s first))
         (λ h. pulls_ended net w v below r s.packet rep (last_of got xs) at input over c h) fits
 
     pub pull_asks : (z : PullFrame) → z ≡ Tries rep.at rep.inputs rep.count rep.first 0 → 0 < rep.count
-        → IsTurn net w old v (transfer_stack (frames_of (take d (set xs 0 s)) (set ys (n - 1) z)) (last_of rep.held (set xs 0 s)) r)
+        → IsTurn net w old v (transfer_stack (frames_of (take d (set xs 0 s)) (set ys (n - 1) z)) (last_of rep.is_answered (set xs 0 s)) r)
     pull_asks z e c =
         turn_at net w v old _ (Pulls at input ∷ below) (asks_of (Tries rep.at rep.inputs rep.count rep.first 0) ∷ below) (last_of got xs) None r before_pull
         (transfer_stack_is _ _ _ _ r (alone (set xs 0 s) (set ys (n - 1) z) _ (asks-set (n - 1) ys z count_is ∙ ap (λ t. asks_of t ∷ below) e))
@@ -139,14 +139,14 @@ module _ (net : Wiring) (w v : RunState) (f : Frame) (old : TransferStack) (d : 
       moved_here : frames_of [] (set ys (n - 1) z) ≡ next_one ∷ below
       moved_here = asks-set (n - 1) ys z count_is ∙ ap (λ t. t ∷ below) after_is
 
-      pub tries_moved : rep.count ≡ 0 → IsTurn net w old v (transfer_stack (frames_of (take d (set xs 0 s)) (set ys (n - 1) z)) (last_of rep.held (set xs 0 s)) r)
+      pub tries_moved : rep.count ≡ 0 → IsTurn net w old v (transfer_stack (frames_of (take d (set xs 0 s)) (set ys (n - 1) z)) (last_of rep.is_answered (set xs 0 s)) r)
       tries_moved c =
-          turn_at net w v old _ (Asks at ins count input back ∷ below) (next_one ∷ below) None (if rep.held then Some s.packet else None) r (before_tries None quiet)
-          (transfer_stack_is _ _ _ _ r (alone (set xs 0 s) (set ys (n - 1) z) _ moved_here) (last-held rep.held xs s first))
+          turn_at net w v old _ (Asks at ins count input back ∷ below) (next_one ∷ below) None (if rep.is_answered then Some s.packet else None) r (before_tries None quiet)
+          (transfer_stack_is _ _ _ _ r (alone (set xs 0 s) (set ys (n - 1) z) _ moved_here) (last-held rep.is_answered xs s first))
           (λ h. asks_moved net w v below r s.packet rep at ins count input back more over c h) fits
 
       pub tries_begun : (zs : List PullFrame) (x : PullFrame) → zs ≡ set ys (n - 1) z ++ x ∷ [] → x ≡ Tries rep.at rep.inputs rep.count rep.first 0 → 0 < rep.count
-          → IsTurn net w old v (transfer_stack (frames_of (take d (set xs 0 s)) zs) (last_of rep.held (set xs 0 s)) r)
+          → IsTurn net w old v (transfer_stack (frames_of (take d (set xs 0 s)) zs) (last_of rep.is_answered (set xs 0 s)) r)
       tries_begun zs x e f c =
           turn_at net w v old _ (Asks at ins count input back ∷ below) (asks_of (Tries rep.at rep.inputs rep.count rep.first 0) ∷ next_one ∷ below) None None r (before_tries None quiet)
           (transfer_stack_is _ _ _ _ r

@@ -31,19 +31,19 @@ positive n h = grind (arith, nat_tests)
 module _ (net : Wiring) (w u v : RunState) (s t m : InputScan) (q : Packet) (rep : PullResult)
     (old : (room : ℕ) → w.left < room → Follows net w (transfer_stack (asks_now s ∷ []) None room) u (transfer_stack (asks_now t ∷ []) None room))
     (some : 0 < t.count) (over : Reached net u v t.at t.input q rep) (on : asks_now m ≡ Asks t.at t.inputs (t.count - 1) (after t.inputs t.input) t.input) where
-  moved_to : rep.count ≡ 0 → (room : ℕ) → w.left < room → Follows net w (transfer_stack (asks_now s ∷ []) None room) v (transfer_stack (asks_now m ∷ []) (if rep.held then Some q else None) room)
+  moved_to : rep.count ≡ 0 → (room : ℕ) → w.left < room → Follows net w (transfer_stack (asks_now s ∷ []) None room) v (transfer_stack (asks_now m ∷ []) (if rep.is_answered then Some q else None) room)
   moved_to none room h =
       let before = old room h in
       rw on (
       follows_on net w u v _ _ _ before
       (of_turn net u v _ _ (asks_moved net u v [] room q rep t.at t.inputs t.count t.input t.back some over none before.fits)))
 
-  pub asked_none : rep.held ≡ false → rep.count ≡ 0 → (room : ℕ) → w.left < room → Follows net w (transfer_stack (asks_now s ∷ []) None room) v (transfer_stack (asks_now m ∷ []) None room)
+  pub asked_none : rep.is_answered ≡ false → rep.count ≡ 0 → (room : ℕ) → w.left < room → Follows net w (transfer_stack (asks_now s ∷ []) None room) v (transfer_stack (asks_now m ∷ []) None room)
   asked_none quiet none room h = rw quiet at (moved_to none room h)
 
-  pub asked_held : rep.held ≡ true → Asked net w v s m q rep
+  pub asked_held : rep.is_answered ≡ true → Asked net w v s m q rep
   asked_held answered =
-      let none = not_both rep.count rep.held over.alone answered in
+      let none = not_both rep.count rep.is_answered over.alone answered in
       record {
         follows = λ room h. rw none (moved_to none room h);
         alone = over.alone;
@@ -62,7 +62,7 @@ module _ (net : Wiring) (w u v : RunState) (s t m : InputScan) (q : Packet) (rep
   }
 
   -- this input was the last one to ask
-  pub asked_all : rep.held ≡ false → rep.count ≡ 0 → m.count ≡ 0 → Asked net w v s m q rep
+  pub asked_all : rep.is_answered ≡ false → rep.count ≡ 0 → m.count ≡ 0 → Asked net w v s m q rep
   asked_all quiet none over_all = record {
     follows = λ room h. rw none (moved_to none room h);
     alone = over.alone;
@@ -83,11 +83,11 @@ module _ (old : TransferStack) (d : ℕ) (xs : List PushFrame) (ys : List PullFr
   abbrev begun : TransferStack
   begun = transfer_stack (asks_now a ∷ []) None old.room
 
-  module _ (answered : rep.held ≡ true) (u : RunState) (copies : PortRange) (answers : Bool) (out : GivesOut v u t.at t.back p s.packet copies answers) where
+  module _ (answered : rep.is_answered ≡ true) (u : RunState) (copies : PortRange) (answers : Bool) (out : GivesOut v u t.at t.back p s.packet copies answers) where
     answer : Follows net w begun v (transfer_stack (asks_now t ∷ []) (Some p) old.room)
     answer =
         let before = over.follows old.room fits in
-        let none = not_both rep.count rep.held over.alone answered in
+        let none = not_both rep.count rep.is_answered over.alone answered in
         rw (none, answered) at before
 
     pub asked_gives : copies.count ≡ 0 → Follows net w begun u (transfer_stack (frames_of (take d (set xs 0 s)) ys) (last_of answers (set xs 0 s)) r)
@@ -114,7 +114,7 @@ module _ (old : TransferStack) (d : ℕ) (xs : List PushFrame) (ys : List PullFr
       rw (e, no_asks (take d xs) ys none, no_push_frames d xs ys inside none, x_is, y_is) refl in
       rw (frames, last-none (set xs 0 s), same_room old d xs ys got r view done) (rw (positive rep.count more, over.alone more) at before)
 
-  pub asked_nothing : rep.held ≡ false → rep.count ≡ 0 → Follows net w begun v (transfer_stack (frames_of (take d (set xs 0 s)) ys) (last_of false (set xs 0 s)) r)
+  pub asked_nothing : rep.is_answered ≡ false → rep.count ≡ 0 → Follows net w begun v (transfer_stack (frames_of (take d (set xs 0 s)) ys) (last_of false (set xs 0 s)) r)
   asked_nothing quiet none =
       let over_all = over.over quiet none in
       let before = over.follows old.room fits in

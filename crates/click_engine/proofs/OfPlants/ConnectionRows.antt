@@ -8,7 +8,7 @@ use Rattle.click_classes.specs.declared.ports.Side.{Side}
 use Rattle.click_classes.specs.declared.ports.Side.TheVariants.{Input, Output}
 use Rattle.click_expand.specs.declared.flat.Connection.{Connection}
 use Rattle.click_engine.specs.Adjacency.{end_of, is_port, first_joined}
-use Rattle.click_engine.specs.kept.Tables.{element_of, end_apart, ends_of, entry, far_of, first_far, first_of, nowhere, port_of, rows_of, AreFirst, AreFirstApart, IsNoted, IsTable}
+use Rattle.click_engine.specs.kept.Tables.{element_of, end_apart, ends_of, entry, far_of, first_far, first_of, nowhere, port_of, rows_of, AreFirst, AreFirstTargets, IsNoted, IsTable}
 use Rattle.click_engine.specs.declared.adjacency.PortRow.{PortRow}
 use Rattle.click_engine.specs.declared.run_state.ConnectionEnd.{ConnectionEnd}
 
@@ -80,5 +80,5 @@ apart_at (row ∷ rows) zero = refl
 apart_at (row ∷ rows) (suc at) = apart_at rows at
 
 pub firsts_apart : (rows : List (List (Option ConnectionEnd))) (f : ℕ → ℕ → Option ConnectionEnd) (places ports : List ℕ) → IsTable rows f
-    → places ≡ map element_of (map first_far rows) → ports ≡ map port_of (map first_far rows) → AreFirstApart places ports f
+    → places ≡ map element_of (map first_far rows) → ports ≡ map port_of (map first_far rows) → AreFirstTargets places ports f
 firsts_apart rows f places ports table at_places at_ports at = rw (at_places, at_ports) (apart_at rows at ∙ ap far_of (table at 0))

@@ -68,7 +68,7 @@ module _ (net : Wiring) (w v : RunState) (at o : ℕ) where
           let none = acts_past w1 far.element (omega (arith, nowhere_is, same, short)) far.port p in
           pushed_unconnected p q far.element to.first to.count h t (acts.run_state ∙ sym none.0 ∙ e) (ap (λ (r : PortRange). r.count) (acts.outputs ∙ sym none.2))
 
-  pub reached_none : (p : Packet) (r : PullResult) → w.left ≡ 0 → v ≡ overrun w → r.held ≡ false → r.count ≡ 0 → Reached net w v at o p r
+  pub reached_none : (p : Packet) (r : PullResult) → w.left ≡ 0 → v ≡ overrun w → r.is_answered ≡ false → r.count ≡ 0 → Reached net w v at o p r
   reached_none p r h e held c =
       let left = ap (λ (u : RunState). u.left) e in
       record {
@@ -80,7 +80,7 @@ module _ (net : Wiring) (w v : RunState) (at o : ℕ) where
         alone = λ k. held;
       }
 
-  pub reached_unconnected : (p : Packet) (r : PullResult) → 0 < w.left → net.source at o ≡ None → v ≡ spent w → r.held ≡ false → r.count ≡ 0 → Reached net w v at o p r
+  pub reached_unconnected : (p : Packet) (r : PullResult) → 0 < w.left → net.source at o ≡ None → v ≡ spent w → r.is_answered ≡ false → r.count ≡ 0 → Reached net w v at o p r
   reached_unconnected p r h t e held c =
       let left = ap (λ (u : RunState). u.left) e in
       record {
@@ -94,7 +94,7 @@ module _ (net : Wiring) (w v : RunState) (at o : ℕ) where
 
   module _ (p : Packet) (r : PullResult) (far : ConnectionEnd) (w1 : RunState) (h : 0 < w.left) (t : net.source at o ≡ Some far) (e : w1 ≡ spent w) where
     pub reached_held : MatchOption (stored (element_at w1 far.element).state) ((true ≡ false) × (v ≡ w1)) (λ s. (true ≡ true) × (s.packet ≡ p) × (v ≡ with_state w1 far.element s.state))
-        → (left : v.left ≡ w.left - 1) → r.held ≡ true → r.count ≡ 0 → Reached net w v at o p r
+        → (left : v.left ≡ w.left - 1) → r.is_answered ≡ true → r.count ≡ 0 → Reached net w v at o p r
     reached_held m left held c =
         record {
           made = rw held (answers_whole _ v true p (pull-held net w at o w.left (w.left - 1) far (omega arith) h t w1 v p e m));
@@ -106,7 +106,7 @@ module _ (net : Wiring) (w v : RunState) (at o : ℕ) where
         }
 
     pub reached_asks : (t' : PortRange) → t'.count < 65536 → MatchOption (stored (element_at w1 far.element).state) ((false ≡ false) × (v ≡ w1)) (λ s. (false ≡ true) × (s.packet ≡ p) × (v ≡ with_state w1 far.element s.state))
-        → r.held ≡ false → r.at ≡ far.element → r.inputs ≡ (element_at v far.element).inputs → t' ≡ tries_at v far.element far.port → r.count ≡ t'.count → r.first ≡ t'.first → Reached net w v at o p r
+        → r.is_answered ≡ false → r.at ≡ far.element → r.inputs ≡ (element_at v far.element).inputs → t' ≡ tries_at v far.element far.port → r.count ≡ t'.count → r.first ≡ t'.first → Reached net w v at o p r
     reached_asks t' few_are m held at_is inputs_are tries_are count_is first_is =
         let found = stored-no _ far.element (spent w) v p (rw e at m) in
         let less : v.left ≡ w.left - 1 = ap (λ (u : RunState). u.left) found.1 in

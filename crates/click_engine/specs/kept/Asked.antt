@@ -21,6 +21,6 @@ frames_with r a = if nat_lt 0 r.count then Asks r.at r.inputs r.count r.first 0 
 -- answered, or it leads to further inputs, or no input is left to ask.
 pub record Asked (net : Wiring) (w v : RunState) (s t : InputScan) (p : Packet) (r : PullResult) : Type 0 where
   pub follows : (room : ℕ) → w.left < room → Follows net w (record { frames = asks_now s ∷ []; last = None; room = room }) v
-      (record { frames = frames_with r t; last = if r.held then Some p else None; room = room })
-  pub alone : 0 < r.count → r.held ≡ false
-  pub over : r.held ≡ false → r.count ≡ 0 → t.count ≡ 0
+      (record { frames = frames_with r t; last = if r.is_answered then Some p else None; room = room })
+  pub alone : 0 < r.count → r.is_answered ≡ false
+  pub over : r.is_answered ≡ false → r.count ≡ 0 → t.count ≡ 0

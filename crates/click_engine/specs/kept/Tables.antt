@@ -49,8 +49,8 @@ port_of p = p.port
 abbrev pub end_apart : List ℕ → List ℕ → ℕ → ConnectionEnd
 end_apart places ports at = record { element = slice_index_or places at (2 ^ 64 - 1); port = slice_index_or ports at 0 }
 
-abbrev pub AreFirstApart : List ℕ → List ℕ → (ℕ → ℕ → Option ConnectionEnd) → Type 0
-AreFirstApart places ports f = (at : ℕ) → end_apart places ports at ≡ far_of (f at 0)
+abbrev pub AreFirstTargets : List ℕ → List ℕ → (ℕ → ℕ → Option ConnectionEnd) → Type 0
+AreFirstTargets places ports f = (at : ℕ) → end_apart places ports at ≡ far_of (f at 0)
 
 -- the entry if there is one, else `far` if this is the port
 abbrev pub first_of : Option ConnectionEnd → Bool → ConnectionEnd → Option ConnectionEnd

@@ -52,9 +52,9 @@ pub record Served (net : Wiring) (w v : RunState) (s t u : PushFrame) : Type 0 w
 -- a pull reached an output: it has the packet that was stored there, or the inputs that are asked
 pub record ReachesIn (w v : RunState) (far : ConnectionEnd) (p : Packet) (r : PullResult) : Type 0 where
   pub reached : MatchOption (stored (element_at w far.element).state)
-      ((r.held ≡ false) × (v ≡ w) × (r.at ≡ far.element) × (r.inputs ≡ (element_at w far.element).inputs)
+      ((r.is_answered ≡ false) × (v ≡ w) × (r.at ≡ far.element) × (r.inputs ≡ (element_at w far.element).inputs)
       × (r.count ≡ (tries_at w far.element far.port).count) × (r.first ≡ (tries_at w far.element far.port).first))
-      (λ s. (r.held ≡ true) × (r.count ≡ 0) × (s.packet ≡ p) × (v ≡ with_state w far.element s.state))
+      (λ s. (r.is_answered ≡ true) × (r.count ≡ 0) × (s.packet ≡ p) × (v ≡ with_state w far.element s.state))
 
 -- a source emitted the first packet of its task, which emits `most` packets at most; it emitted
 -- none if `most` is 0
@@ -65,12 +65,12 @@ EmitsFirst w v at p most =
 
 -- a pull was answered by the packet p, or led to inputs that an element asks, or to none
 pub record Reached (net : Wiring) (w v : RunState) (at input : ℕ) (p : Packet) (r : PullResult) : Type 0 where
-  pub made : (if r.held then record { run_state = v; packet = Some p } else asked net v.left r.at r.inputs r.count r.first v) ≡ pull net w.left w at input
+  pub made : (if r.is_answered then record { run_state = v; packet = Some p } else asked net v.left r.at r.inputs r.count r.first v) ≡ pull net w.left w at input
   pub fewer : v.left ≤ w.left
   pub one : w.left ≤ v.left + 1
   pub spends : 0 < r.count → v.left < w.left
   pub few : r.count < 65536
-  pub alone : 0 < r.count → r.held ≡ false
+  pub alone : 0 < r.count → r.is_answered ≡ false
 
 -- a whole pull was made: no frame is left, and its answer is that of the stack, if it has one
 pub record HasPulled (net : Wiring) (w v : RunState) (old new : TransferStack) (at : ℕ) (answered : Bool) : Type 0 where

@@ -218,7 +218,7 @@ module _ (c : Config) where
       l.meaning ≡ Some (compound b) → Stands c (inside b) v o → (front : List Scope) × (x.scope ∷ x.enclosing ≡ front ++ o)
   founded-enclosing nested x i b l v o h e q k =
       let r = founded-at c nested x.scope x.visible x.enclosing h i l b e q in
-      let same = stands-once c nested (inside b) r.inner v r.outer o r.stands k in
+      let same = stands-once c nested (inside b) r.inner v r.parent o r.stands k in
       (r.front, r.is ∙ ap (λ a. r.front ++ a) same.1)
 
   pub next-there : (done rest : List ScopeElement) (l : ScopeElement) → slice_get (done ++ l ∷ rest) (length done) ≡ Some l

@@ -139,11 +139,11 @@ module _ (c : Config) (nests : IsNested c) (sound : IsFaultless c) (s : Scope) (
       let k = founded c nests s visible enclosing stands l b i e in
       let xs = arguments-exist l.text in
       let ys = values-exist c bindings (s ∷ enclosing) l.text xs.0 in
-      let h = f b k.inner k.outer k.stands k.below (path ++ l.name ∷ []) ((b, ys.0) ∷ bindings) in
+      let h = f b k.inner k.parent k.stands k.below (path ++ l.name ∷ []) ((b, ys.0) ∷ bindings) in
       record {
         primitive_elements = h.primitive_elements ++ r.primitive_elements;
         paths = h.paths + r.paths + 1;
-        are = branch s enclosing path bindings l ls b k.inner k.outer xs.0 ys.0 h.primitive_elements r.primitive_elements h.paths r.paths e xs.1 ys.1 k.stands h.are r.are;
+        are = branch s enclosing path bindings l ls b k.inner k.parent xs.0 ys.0 h.primitive_elements r.primitive_elements h.paths r.paths e xs.1 ys.1 k.stands h.are r.are;
       }
 
   pub has-primitive_elements : (path : List (List ℕ)) (bindings : Bindings) (ls : List ScopeElement) → HaveInner → ((l : ScopeElement) → Contains ls l → Contains (elements_of_scope c s visible) l) →

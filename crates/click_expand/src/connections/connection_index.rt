@@ -1,7 +1,7 @@
 //! The connections of a scope, indexed by their source ports, and what their target ports lead to.
 
 ghost use Rattle.std.specs.Prelude.{◌≡◌, ◌∷◌, ◌++◌, [], OnOk, OnErr, IfOk, if◌then◌else◌};
-ghost use Rattle.click_expand.specs.declared.connections.connection_index.ScopePort.{ScopePort as Jack};
+ghost use Rattle.click_expand.specs.declared.connections.connection_index.ScopePort.{ScopePort};
 ghost use Rattle.click_expand.specs.kept.Wiring as spec;
 ghost use Rattle.click_expand.specs.kept.Wiring.{IsIndex, ends_in, ends_of, same_port, reached_by};
 
@@ -102,8 +102,8 @@ pub struct ConnectionIndex {
 impl ConnectionIndex {
     /// Adds a connection. If it fails with out of memory, the connections are unchanged.
     fn add(&mut self, alloc: Global, from: ScopePort, to: ScopePort) -> Result<(), AllocError>
-        ensures added { OnOk result ((q : Jack) → ends_in self.new.ends.entries q ≡ (if same_port from q then ends_in self.old.ends.entries from ++ to ∷ [] else ends_in self.old.ends.entries q)) }
-        ensures err { OnErr result ((q : Jack) → ends_in self.new.ends.entries q ≡ ends_in self.old.ends.entries q) }
+        ensures added { OnOk result ((q : ScopePort) → ends_in self.new.ends.entries q ≡ (if same_port from q then ends_in self.old.ends.entries from ++ to ∷ [] else ends_in self.old.ends.entries q)) }
+        ensures err { OnErr result ((q : ScopePort) → ends_in self.new.ends.entries q ≡ ends_in self.old.ends.entries q) }
         ensures alike { self.new.alike ≡ self.old.alike }
     {
         if let Some(ends) = self.ends.get_mut(&from) {

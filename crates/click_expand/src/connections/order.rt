@@ -1,7 +1,7 @@
 //! The order of connections.
 
 ghost use Rattle.std.specs.Prelude.{◌↔◌, Contains};
-ghost use Rattle.click_expand.specs.declared.flat.Connection.{Connection as Joined};
+ghost use Rattle.click_expand.specs.declared.flat.Connection.{Connection};
 ghost use Rattle.click_expand.specs.Flat.{AreOrdered};
 
 use crate::flat::Connection;
@@ -9,7 +9,7 @@ use crate::flat::Connection;
 /// Returns the connections in order, without repetition.
 pub fn in_order(mut connections: Vec<Connection>) -> Vec<Connection>
     ensures order { AreOrdered result.items }
-    ensures same { (c : Joined) → Contains result.items c ↔ Contains connections.items c }
+    ensures same { (c : Connection) → Contains result.items c ↔ Contains connections.items c }
 {
     connections.sort_unstable();
     connections.dedup();

@@ -8,9 +8,9 @@ ghost use Rattle.std.specs.Prelude.{◌≡◌, ◌⊎◌, ◌∷◌, [], ℕ, Li
 ghost use Rattle.std.specs.Map.{lookup};
 ghost use Rattle.click_scopes.specs.declared.written_connections.Owner.TheVariants as owner;
 ghost use Rattle.click_scopes.specs.kept.Lookups.{body_at};
-ghost use Rattle.click_expand.specs.declared.connections.connection_index.ScopePort.{ScopePort as PortKept};
+ghost use Rattle.click_expand.specs.declared.connections.connection_index.ScopePort.{ScopePort};
 ghost use Rattle.click_expand.specs.declared.connections.connection_index.PortEnds.TheVariants.{Several};
-ghost use Rattle.click_expand.specs.declared.connections.connection_index.ConnectionIndex.{ConnectionIndex as IndexKept};
+ghost use Rattle.click_expand.specs.declared.connections.connection_index.ConnectionIndex.{ConnectionIndex};
 ghost use Rattle.click_expand.specs.kept.Wiring.{AreIndices, Gains, HasAll, ends_in, same_port, scope_port as port_of};
 ghost use Rattle.click_expand.specs.kept.Passthrough as spec;
 ghost use Rattle.click_expand.specs.kept.Passthrough.{AreAlike, AreEndsOf, AreFound, AreShortened, AreStoodFor, HasShortcuts, IsLike, IsOutputOf, IsShortened, LeadAlike, LeadsThrough, GoesOnBehind, StandsIn};
@@ -31,7 +31,7 @@ struct Shortcut {
 ///
 /// It is the input's own number, if no stand-in is recorded.
 fn number_for(done: &[ConnectionIndex], body: usize, number: u8) -> u8
-    ensures { (ends short : ℕ → PortKept → List PortKept) (bodies : ℕ → ℕ → Option ℕ) → AreShortened ends bodies short done.now →
+    ensures { (ends short : ℕ → ScopePort → List ScopePort) (bodies : ℕ → ℕ → Option ℕ) → AreShortened ends bodies short done.now →
         (result ≡ number) ⊎ LeadsThrough ends bodies body number (short body (port_of owner.Input result)) }
 {
     match done.get(body) {
@@ -45,7 +45,7 @@ fn number_for(done: &[ConnectionIndex], body: usize, number: u8) -> u8
 
 /// Returns the stand-in for a port that a connection leads to.
 fn port_for(done: &[ConnectionIndex], scopes: &Scopes, scope: usize, end: ScopePort) -> ScopePort
-    ensures { (ends short : ℕ → PortKept → List PortKept) → AreShortened ends (body_at scopes.now.scopes.items) short done.now → StandsIn ends (body_at scopes.now.scopes.items) short scope end result }
+    ensures { (ends short : ℕ → ScopePort → List ScopePort) → AreShortened ends (body_at scopes.now.scopes.items) short done.now → StandsIn ends (body_at scopes.now.scopes.items) short scope end result }
 {
     let Owner::Element(element) = end.owner else {
         return end;
@@ -67,7 +67,7 @@ fn ports_for(
     scope: usize,
     ends: &[ScopePort],
 ) -> Result<Vec<ScopePort>, AllocError>
-    ensures { (joined short : ℕ → PortKept → List PortKept) → AreShortened joined (body_at scopes.now.scopes.items) short done.now →
+    ensures { (joined short : ℕ → ScopePort → List ScopePort) → AreShortened joined (body_at scopes.now.scopes.items) short done.now →
         IfOk result (λ ports. AreStoodFor joined (body_at scopes.now.scopes.items) short scope ends.now ports.items) }
 {
     let mut ports = IndexSet::new(alloc);
@@ -83,7 +83,7 @@ fn put_ends(
     from: ScopePort,
     ports: Vec<ScopePort>,
 ) -> Result<(), AllocError>
-    ensures { OnOk result ((q : PortKept) → lookup (same_port q) ends.new.entries ≡ (if same_port from q then Some (Several ports) else lookup (same_port q) ends.old.entries)) }
+    ensures { OnOk result ((q : ScopePort) → lookup (same_port q) ends.new.entries ≡ (if same_port from q then Some (Several ports) else lookup (same_port q) ends.old.entries)) }
 {
     ends.insert(from, PortEnds::Several(ports))?;
     Ok(())
@@ -92,14 +92,14 @@ fn put_ends(
 /// Returns the index of a scope in which each target port is replaced by its stand-in.
 ///
 /// The indices of all bodies before the scope are in `done`.
-fn with_stand_ins(
+fn with_representatives(
     alloc: Global,
     done: &[ConnectionIndex],
     scopes: &Scopes,
     scope: usize,
     index: &ConnectionIndex,
 ) -> Result<ConnectionIndex, AllocError>
-    ensures { (ends short : ℕ → PortKept → List PortKept) → AreShortened ends (body_at scopes.now.scopes.items) short done.now → ((a : PortKept) → ends scope a ≡ ends_in index.now.ends.entries a) →
+    ensures { (ends short : ℕ → ScopePort → List ScopePort) → AreShortened ends (body_at scopes.now.scopes.items) short done.now → ((a : ScopePort) → ends scope a ≡ ends_in index.now.ends.entries a) →
         IfOk result (λ x. AreEndsOf ends (body_at scopes.now.scopes.items) short scope (ends_in x.ends.entries)) }
 {
     let mut ends = IndexMap::new(alloc);
@@ -130,18 +130,18 @@ fn has_compounds(scopes: &Scopes, scope: usize) -> bool
 /// Returns the index of a scope in which each target port is replaced by its stand-in.
 ///
 /// perf: the index of a scope without compounds is returned as given, because it has no stand-ins.
-fn reduced(
+fn with_representatives_if_nested(
     alloc: Global,
     done: &[ConnectionIndex],
     scopes: &Scopes,
     scope: usize,
     index: ConnectionIndex,
 ) -> Result<ConnectionIndex, AllocError>
-    ensures { (ends short : ℕ → PortKept → List PortKept) → AreShortened ends (body_at scopes.now.scopes.items) short done.now → ((a : PortKept) → ends scope a ≡ ends_in index.ends.entries a) →
+    ensures { (ends short : ℕ → ScopePort → List ScopePort) → AreShortened ends (body_at scopes.now.scopes.items) short done.now → ((a : ScopePort) → ends scope a ≡ ends_in index.ends.entries a) →
         IfOk result (λ x. AreEndsOf ends (body_at scopes.now.scopes.items) short scope (ends_in x.ends.entries)) }
 {
     if has_compounds(scopes, scope) {
-        return with_stand_ins(alloc, done, scopes, scope, &index);
+        return with_representatives(alloc, done, scopes, scope, &index);
     }
     Ok(index)
 }
@@ -150,7 +150,7 @@ fn reduced(
 ///
 /// It returns true for no ports: an input without connections leads to no flat element.
 fn are_outputs(ends: &[ScopePort]) -> bool
-    ensures { result ≡ true → (p : PortKept) → Contains ends.now p → p.owner ≡ owner.Output }
+    ensures { result ≡ true → (p : ScopePort) → Contains ends.now p → p.owner ≡ owner.Output }
 {
     for end in ends {
         let Owner::Output = end.owner else {
@@ -164,7 +164,7 @@ fn are_outputs(ends: &[ScopePort]) -> bool
 ///
 /// Returns `None` if the input is not known to be one, or the body is not in `done`.
 fn outputs_through(done: &[ConnectionIndex], body: usize, number: u8) -> Option<&[ScopePort]>
-    ensures { (ends short : ℕ → PortKept → List PortKept) (bodies : ℕ → ℕ → Option ℕ) → AreShortened ends bodies short done.now →
+    ensures { (ends short : ℕ → ScopePort → List ScopePort) (bodies : ℕ → ℕ → Option ℕ) → AreShortened ends bodies short done.now →
         IfSome result (λ outputs. (outputs.now ≡ short body (port_of owner.Input number)) × LeadsThrough ends bodies body number outputs.now) }
 {
     let ends = done.get(body)?.ends(ScopePort {
@@ -175,7 +175,7 @@ fn outputs_through(done: &[ConnectionIndex], body: usize, number: u8) -> Option<
 }
 
 /// Continues the search at the element's outputs with these numbers.
-fn go_on(
+fn enqueue_outputs(
     element: usize,
     outputs: &[ScopePort],
     seen: &mut IndexSet<ScopePort>,
@@ -195,7 +195,7 @@ fn go_on(
 /// Continues the search at a port that a connection leads to.
 ///
 /// Returns false if the port belongs to a flat element, or is not a pass-through input.
-fn pass(
+fn follow_port(
     done: &[ConnectionIndex],
     scopes: &Scopes,
     scope: usize,
@@ -203,7 +203,7 @@ fn pass(
     seen: &mut IndexSet<ScopePort>,
     outputs: &mut IndexSet<ScopePort>,
 ) -> Result<bool, AllocError>
-    ensures { (ends short : ℕ → PortKept → List PortKept) → AreShortened ends (body_at scopes.now.scopes.items) short done.now →
+    ensures { (ends short : ℕ → ScopePort → List ScopePort) → AreShortened ends (body_at scopes.now.scopes.items) short done.now →
         IfOk result (λ on. on ≡ true → GoesOnBehind ends (body_at scopes.now.scopes.items) short scope (end ∷ []) seen.old.keys seen.new.keys outputs.old.keys outputs.new.keys) }
 {
     match end.owner {
@@ -220,7 +220,7 @@ fn pass(
             let Some(behind) = outputs_through(done, body, end.number) else {
                 return Ok(false);
             };
-            go_on(element, behind, seen)?;
+            enqueue_outputs(element, behind, seen)?;
             Ok(true)
         }
     }
@@ -229,7 +229,7 @@ fn pass(
 /// Continues the search at each of these ports.
 ///
 /// Returns false at the first for which `pass` does.
-fn search_past_all(
+fn follow_all(
     done: &[ConnectionIndex],
     scopes: &Scopes,
     scope: usize,
@@ -237,11 +237,11 @@ fn search_past_all(
     seen: &mut IndexSet<ScopePort>,
     outputs: &mut IndexSet<ScopePort>,
 ) -> Result<bool, AllocError>
-    ensures { (joined short : ℕ → PortKept → List PortKept) → AreShortened joined (body_at scopes.now.scopes.items) short done.now →
+    ensures { (joined short : ℕ → ScopePort → List ScopePort) → AreShortened joined (body_at scopes.now.scopes.items) short done.now →
         IfOk result (λ on. on ≡ true → GoesOnBehind joined (body_at scopes.now.scopes.items) short scope ends.now seen.old.keys seen.new.keys outputs.old.keys outputs.new.keys) }
 {
     for end in ends {
-        if !pass(done, scopes, scope, *end, seen, outputs)? {
+        if !follow_port(done, scopes, scope, *end, seen, outputs)? {
             return Ok(false);
         }
     }
@@ -259,7 +259,7 @@ fn outputs_from(
     index: &ConnectionIndex,
     from: ScopePort,
 ) -> Result<Option<Vec<ScopePort>>, AllocError>
-    ensures { (ends short : ℕ → PortKept → List PortKept) → AreShortened ends (body_at scopes.now.scopes.items) short done.now → AreEndsOf ends (body_at scopes.now.scopes.items) short scope (ends_in index.now.ends.entries) →
+    ensures { (ends short : ℕ → ScopePort → List ScopePort) → AreShortened ends (body_at scopes.now.scopes.items) short done.now → AreEndsOf ends (body_at scopes.now.scopes.items) short scope (ends_in index.now.ends.entries) →
         IfOk result (λ r. IfSome r (λ outputs. LeadAlike ends (body_at scopes.now.scopes.items) scope (ends_in index.now.ends.entries) from outputs.items)) }
 {
     let mut seen = IndexSet::new(alloc);
@@ -269,7 +269,7 @@ fn outputs_from(
     while at < seen.len() {
         let port = seen.as_slice()[at];
         let ends = index.ends(port);
-        if !search_past_all(done, scopes, scope, ends, &mut seen, &mut outputs)? {
+        if !follow_all(done, scopes, scope, ends, &mut seen, &mut outputs)? {
             return Ok(None);
         }
         at += 1;
@@ -300,8 +300,8 @@ fn only_end(index: &ConnectionIndex, from: ScopePort) -> Option<ScopePort>
 
 impl ScopeShortcuts {
     /// Returns an input that was found before, whose only connection leads to the same port.
-    fn like(&self, index: &ConnectionIndex, from: ScopePort) -> Option<u8>
-        ensures { (ends : ℕ → PortKept → List PortKept) (bodies : ℕ → ℕ → Option ℕ) (scope : ℕ) → AreFound ends bodies scope (ends_in index.now.ends.entries) self.now →
+    fn representative_of(&self, index: &ConnectionIndex, from: ScopePort) -> Option<u8>
+        ensures { (ends : ℕ → ScopePort → List ScopePort) (bodies : ℕ → ℕ → Option ℕ) (scope : ℕ) → AreFound ends bodies scope (ends_in index.now.ends.entries) self.now →
             IfSome result (IsLike (ends_in index.now.ends.entries) self.now.shortcuts.items from) }
     {
         match only_end(index, from) {
@@ -317,7 +317,7 @@ impl ScopeShortcuts {
         from: ScopePort,
         outputs: Vec<ScopePort>,
     ) -> Result<(), AllocError>
-        ensures { (ends : ℕ → PortKept → List PortKept) (bodies : ℕ → ℕ → Option ℕ) (scope : ℕ) → AreFound ends bodies scope (ends_in index.now.ends.entries) self.old → from.owner ≡ owner.Input →
+        ensures { (ends : ℕ → ScopePort → List ScopePort) (bodies : ℕ → ℕ → Option ℕ) (scope : ℕ) → AreFound ends bodies scope (ends_in index.now.ends.entries) self.old → from.owner ≡ owner.Input →
             LeadAlike ends bodies scope (ends_in index.now.ends.entries) from outputs.items → OnOk result (AreFound ends bodies scope (ends_in index.now.ends.entries) self.new) }
     {
         if let Some(end) = only_end(index, from) {
@@ -337,13 +337,13 @@ impl ScopeShortcuts {
         index: &ConnectionIndex,
         from: ScopePort,
     ) -> Result<(), AllocError>
-        ensures { (ends short : ℕ → PortKept → List PortKept) → AreShortened ends (body_at scopes.now.scopes.items) short done.now → AreEndsOf ends (body_at scopes.now.scopes.items) short scope (ends_in index.now.ends.entries) →
+        ensures { (ends short : ℕ → ScopePort → List ScopePort) → AreShortened ends (body_at scopes.now.scopes.items) short done.now → AreEndsOf ends (body_at scopes.now.scopes.items) short scope (ends_in index.now.ends.entries) →
             AreFound ends (body_at scopes.now.scopes.items) scope (ends_in index.now.ends.entries) self.old → OnOk result (AreFound ends (body_at scopes.now.scopes.items) scope (ends_in index.now.ends.entries) self.new) }
     {
         let Owner::Input = from.owner else {
             return Ok(());
         };
-        if let Some(number) = self.like(index, from) {
+        if let Some(number) = self.representative_of(index, from) {
             self.alike.insert(from.number, number)?;
             return Ok(());
         }
@@ -364,7 +364,7 @@ fn shortcuts_of(
     scope: usize,
     index: &ConnectionIndex,
 ) -> Result<ScopeShortcuts, AllocError>
-    ensures { (ends short : ℕ → PortKept → List PortKept) → AreShortened ends (body_at scopes.now.scopes.items) short done.now → AreEndsOf ends (body_at scopes.now.scopes.items) short scope (ends_in index.now.ends.entries) →
+    ensures { (ends short : ℕ → ScopePort → List ScopePort) → AreShortened ends (body_at scopes.now.scopes.items) short done.now → AreEndsOf ends (body_at scopes.now.scopes.items) short scope (ends_in index.now.ends.entries) →
         IfOk result (AreFound ends (body_at scopes.now.scopes.items) scope (ends_in index.now.ends.entries)) }
 {
     let mut found = ScopeShortcuts {
@@ -401,31 +401,31 @@ fn with_shortcuts(
 /// Returns the index of a scope with its shortcuts.
 ///
 /// The indices of all bodies before it, with their shortcuts, are in `done`.
-fn shortened(
+fn with_shortcuts_of_scope(
     alloc: Global,
     done: &[ConnectionIndex],
     scopes: &Scopes,
     scope: usize,
     index: ConnectionIndex,
 ) -> Result<ConnectionIndex, AllocError>
-    ensures { (ends short : ℕ → PortKept → List PortKept) → AreShortened ends (body_at scopes.now.scopes.items) short done.now → ((a : PortKept) → ends scope a ≡ ends_in index.ends.entries a) →
-        IfOk result (λ x. ((a : PortKept) → short scope a ≡ ends_in x.ends.entries a) → IsShortened ends (body_at scopes.now.scopes.items) short scope × AreAlike ends (body_at scopes.now.scopes.items) short scope x) }
+    ensures { (ends short : ℕ → ScopePort → List ScopePort) → AreShortened ends (body_at scopes.now.scopes.items) short done.now → ((a : ScopePort) → ends scope a ≡ ends_in index.ends.entries a) →
+        IfOk result (λ x. ((a : ScopePort) → short scope a ≡ ends_in x.ends.entries a) → IsShortened ends (body_at scopes.now.scopes.items) short scope × AreAlike ends (body_at scopes.now.scopes.items) short scope x) }
 {
-    let short = reduced(alloc, done, scopes, scope, index)?;
+    let short = with_representatives_if_nested(alloc, done, scopes, scope, index)?;
     let found = shortcuts_of(alloc, done, scopes, scope, &short)?;
     with_shortcuts(short, found)
 }
 
 /// Returns the indices of all scopes, with their shortcuts, or fails with out of memory.
 pub fn all_indices(alloc: Global, scopes: &Scopes) -> Result<Vec<ConnectionIndex>, AllocError>
-    ensures { IfOk result (λ short. (whole : List IndexKept) × AreIndices scopes.now.scopes.items whole × (length whole ≡ length short.items)
+    ensures { IfOk result (λ short. (whole : List ConnectionIndex) × AreIndices scopes.now.scopes.items whole × (length whole ≡ length short.items)
         × AreShortened (spec.ends_at whole) (body_at scopes.now.scopes.items) (spec.ends_at short.items) short.items) }
 {
     let mut indices = Vec::new(alloc);
     let all = scopes.scopes.as_slice();
     for (scope, one) in all.iter().enumerate() {
         let index = index_of(alloc, one.connections.as_slice())?;
-        indices.push(shortened(alloc, indices.as_slice(), scopes, scope, index)?)?;
+        indices.push(with_shortcuts_of_scope(alloc, indices.as_slice(), scopes, scope, index)?)?;
     }
     Ok(indices)
 }

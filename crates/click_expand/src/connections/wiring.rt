@@ -1,7 +1,7 @@
 //! The search for the connections of a flat configuration.
 
 ghost use Rattle.std.specs.Prelude.{◌≡◌, ◌≤◌, ◌<◌, ◌∷◌, [], ℕ, List, length, Contains, OnOk, IfOk, MatchOption};
-ghost use Rattle.click_expand.specs.declared.flat.Connection.{Connection as Joined};
+ghost use Rattle.click_expand.specs.declared.flat.Connection.{Connection};
 ghost use Rattle.click_scopes.specs.kept.Nesting.{IsNested};
 ghost use Rattle.click_scopes.specs.Faults.{IsFaultless};
 ghost use Rattle.click_scopes.specs.Analysis.{AreScopes};
@@ -24,7 +24,7 @@ use indexmap::IndexSet;
 use std::alloc::{AllocError, Global};
 
 /// The maximum number of connections.
-pub const MOST_CONNECTIONS: usize = 16384;
+pub const MAX_CONNECTIONS: usize = 16384;
 
 /// An output of a flat element: the element's index, and the port where a search from it starts.
 #[derive(Clone, Copy)]
@@ -113,13 +113,13 @@ fn search(
     ensures more { OnOk result (Gains (IsFrom instances.now indices.now from.primitive_element from.start) found.old.keys found.new.keys) }
     ensures all { OnOk result (length found.new.keys ≤ most_connections → HasAll (IsFrom instances.now indices.now from.primitive_element from.start) found.new.keys) }
 {
-    if found.len() > MOST_CONNECTIONS {
+    if found.len() > MAX_CONNECTIONS {
         return Ok(());
     }
     let mut seen = IndexSet::new(alloc);
     visit(instances, indices, from.start, from, &mut seen, found)?;
     let mut at = 0;
-    while at < seen.len() && found.len() <= MOST_CONNECTIONS {
+    while at < seen.len() && found.len() <= MAX_CONNECTIONS {
         let start = seen.as_slice()[at];
         visit(instances, indices, start, from, &mut seen, found)?;
         at += 1;
@@ -200,7 +200,7 @@ fn search_all(
     instances: &[Instance],
     indices: &[ConnectionIndex],
 ) -> Result<IndexSet<Connection>, AllocError>
-    ensures sound { IfOk result (λ found. (k : Joined) → Contains found.keys k → Connects instances.now indices.now k) }
+    ensures sound { IfOk result (λ found. (k : Connection) → Contains found.keys k → Connects instances.now indices.now k) }
     ensures all { IfOk result (λ found. length found.keys ≤ most_connections → HasAll (Connects instances.now indices.now) found.keys) }
 {
     let mut found = IndexSet::with_capacity(alloc, room)?;
@@ -223,7 +223,7 @@ pub fn connections_of(
     requires scopes { AreScopes config.now scopes.now }
     requires used { (primitive_elements : List Flattened) × (known : List KnownInstance) × AreInstances config.now instances.now.instances.items instances.now.primitive_elements.items known primitive_elements }
     ensures { IfOk result (λ r. (primitive_elements : List Flattened) (known : List KnownInstance) → AreInstances config.now instances.now.instances.items instances.now.primitive_elements.items known primitive_elements →
-        MatchOption r ((ks : List Joined) × AreOrdered ks × ((k : Joined) → Contains ks k → Joins config.now primitive_elements k) × (most_connections < length ks))
+        MatchOption r ((ks : List Connection) × AreOrdered ks × ((k : Connection) → Contains ks k → Joins config.now primitive_elements k) × (most_connections < length ks))
         (λ ks. AreConnections config.now primitive_elements ks.items × (length ks.items ≤ most_connections))) }
 {
     let indices = all_indices(alloc, scopes)?;
@@ -236,7 +236,7 @@ pub fn connections_of(
         indices.as_slice(),
     )?;
     let all = in_order(Vec::from_slice(alloc, found.as_slice())?);
-    if all.len() > MOST_CONNECTIONS {
+    if all.len() > MAX_CONNECTIONS {
         Ok(None)
     } else {
         Ok(Some(all))

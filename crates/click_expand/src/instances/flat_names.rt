@@ -1,9 +1,9 @@
 //! Flat names: the local names on the way to an element, with `/` between them.
 
 ghost use Rattle.std.specs.Prelude.{◌≡◌, ℕ, List, map, reverse, slice_get, Some, IfOk};
-ghost use Rattle.click_text.specs.declared.syntax.Config.{Config as Spelled};
-ghost use Rattle.click_scopes.specs.declared.scopes.Scope.{Scope as ScopeKept};
-ghost use Rattle.click_expand.specs.declared.instances.tree.Place.{Place as Placed};
+ghost use Rattle.click_text.specs.declared.syntax.Config.{Config};
+ghost use Rattle.click_scopes.specs.declared.scopes.Scope.{Scope};
+ghost use Rattle.click_expand.specs.declared.instances.tree.Place.{Place};
 ghost use Rattle.click_expand.specs.Flat.{flat_name};
 ghost use Rattle.click_expand.specs.Instances.{PrimitiveElement as Flattened};
 ghost use Rattle.click_scopes.specs.kept.AllScopes.{AreAllScopes};
@@ -39,7 +39,7 @@ fn enclosing(instances: &[Instance], at: usize) -> Option<Place>
 
 /// Returns the places on the way from an instance outwards, of which the nearest comes first.
 fn outward(alloc: Global, instances: &[Instance], within: usize) -> Result<Vec<Place>, AllocError>
-    ensures { IfOk result (λ way. (c : Spelled) (scopes : List ScopeKept) (places : List Placed) (known : List KnownInstance) (primitive_elements : List Flattened) (x : KnownInstance) →
+    ensures { IfOk result (λ way. (c : Config) (scopes : List Scope) (places : List Place) (known : List KnownInstance) (primitive_elements : List Flattened) (x : KnownInstance) →
         AreAllScopes c scopes → AreInstances c instances.now places known primitive_elements → slice_get known within ≡ Some x → x.path ≡ reverse (map (name_of_place scopes instances.now) way.items)) }
 {
     let mut way = Vec::new(alloc);
@@ -58,7 +58,7 @@ pub fn name_of(
     instances: &[Instance],
     place: Place,
 ) -> Result<Vec<u8>, AllocError>
-    ensures { IfOk result (λ name. (c : Spelled) (places : List Placed) (known : List KnownInstance) (primitive_elements : List Flattened) (n : ℕ) (primitive_element : Flattened) →
+    ensures { IfOk result (λ name. (c : Config) (places : List Place) (known : List KnownInstance) (primitive_elements : List Flattened) (n : ℕ) (primitive_element : Flattened) →
         AreAllScopes c scopes.now.scopes.items → AreInstances c instances.now places known primitive_elements → slice_get places n ≡ Some place → slice_get primitive_elements n ≡ Some primitive_element → name.items ≡ flat_name primitive_element.path) }
 {
     let local = local_name(scopes, instances, place);

@@ -14,10 +14,10 @@ use click_text::syntax::Config;
 use std::alloc::{AllocError, Global};
 
 /// The maximum number of flat elements.
-pub const MOST_ELEMENTS: usize = 4096;
+pub const MAX_ELEMENTS: usize = 4096;
 
 /// The maximum number of paths to flat elements and compounds.
-pub const MOST_PATHS: usize = 16384;
+pub const MAX_PATHS: usize = 16384;
 
 /// The number of flat elements, and the number of paths to them and to compounds.
 ///
@@ -67,11 +67,11 @@ fn with_element(all: Size, inside: Size) -> Size
     ensures paths { result.paths ≡ min (all.paths + (inside.paths + 1)) (most_paths + 1) }
 {
     Size {
-        elements: capped(all.elements, inside.elements, MOST_ELEMENTS + 1),
+        elements: capped(all.elements, inside.elements, MAX_ELEMENTS + 1),
         paths: capped(
-            capped(all.paths, 1, MOST_PATHS + 1),
+            capped(all.paths, 1, MAX_PATHS + 1),
             inside.paths,
-            MOST_PATHS + 1,
+            MAX_PATHS + 1,
         ),
     }
 }

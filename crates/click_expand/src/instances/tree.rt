@@ -7,7 +7,7 @@ ghost use Rattle.click_scopes.specs.kept.Lookups.{elements_by};
 ghost use Rattle.click_scopes.specs.Faults.{IsFaultless};
 ghost use Rattle.click_expand.specs.Instances.{PrimitiveElement as Flattened, PrimitiveElementsOf};
 ghost use Rattle.click_expand.specs.kept.KnownInstances.{KnownInstance, AreInstances};
-ghost use Rattle.click_expand.specs.declared.instances.tree.Instance.{Instance as InstanceKept};
+ghost use Rattle.click_expand.specs.declared.instances.tree.Instance.{Instance};
 ghost use Rattle.click_expand.specs.kept.InstanceWalk as spec;
 ghost use Rattle.click_expand.specs.kept.InstanceWalk.{instance_without_parts, with_part, AreInward, lexical_parent_by, IsLexicalParentIn, AddsFlatElement, IsEntered, IsLeft, IsWalkStep};
 
@@ -92,7 +92,7 @@ fn next_in(scopes: &Scopes, scope: usize, element: usize) -> NextElement
 /// Returns the next instance to look at, or `None` if this one is of the scope.
 fn next_lexical_parent(instances: &[Instance], place: usize, scope: usize) -> Option<usize>
     requires { place < length instances.now }
-    ensures { (k : InstanceKept) × (slice_get instances.now place ≡ Some k) × (result ≡ lexical_parent_by scope k) }
+    ensures { (k : Instance) × (slice_get instances.now place ≡ Some k) × (result ≡ lexical_parent_by scope k) }
 {
     let one = &instances[place];
     if one.scope == scope {
@@ -122,7 +122,7 @@ fn add_part(
     part: InstancePart,
 ) -> Result<(), AllocError>
     requires { place < length instances.old.items }
-    ensures { OnOk result ((k : InstanceKept) × (slice_get instances.old.items place ≡ Some k) × (instances.new.items ≡ slice_set instances.old.items place (with_part k part))) }
+    ensures { OnOk result ((k : Instance) × (slice_get instances.old.items place ≡ Some k) × (instances.new.items ≡ slice_set instances.old.items place (with_part k part))) }
 {
     let one = &mut instances[place];
     one.parts.push(part)?;
@@ -157,7 +157,7 @@ fn push_instance(instances: &mut Vec<Instance>, one: Instance) -> Result<(), All
 /// Returns the number of parts that an instance has so far.
 fn part_count(instances: &[Instance], place: usize) -> usize
     requires { place < length instances.now }
-    ensures { (k : InstanceKept) × (slice_get instances.now place ≡ Some k) × (result ≡ length k.parts) }
+    ensures { (k : Instance) × (slice_get instances.now place ≡ Some k) × (result ≡ length k.parts) }
 {
     let one = &instances[place];
     one.parts.len()
@@ -166,7 +166,7 @@ fn part_count(instances: &[Instance], place: usize) -> usize
 /// Appends a flat element to the current instance.
 fn add_primitive_element(walk: &mut Walk) -> Result<(), AllocError>
     requires { walk.old.place < length walk.old.instances.items }
-    ensures { OnOk result ((k : InstanceKept) × (slice_get walk.old.instances.items walk.old.place ≡ Some k) × AddsFlatElement walk.old walk.new k) }
+    ensures { OnOk result ((k : Instance) × (slice_get walk.old.instances.items walk.old.place ≡ Some k) × AddsFlatElement walk.old walk.new k) }
 {
     let element = part_count(walk.instances.as_slice(), walk.place);
     let primitive_element = walk.primitive_elements.len();
@@ -186,7 +186,7 @@ fn add_primitive_element(walk: &mut Walk) -> Result<(), AllocError>
 fn enter(alloc: Global, scopes: &Scopes, body: usize, walk: &mut Walk) -> Result<(), AllocError>
     requires there { walk.old.place < length walk.old.instances.items }
     requires inward { AreInward walk.old.instances.items }
-    ensures { OnOk result ((k : InstanceKept) × (slice_get walk.old.instances.items walk.old.place ≡ Some k) × IsEntered scopes.now.scopes.items body walk.old walk.new k) }
+    ensures { OnOk result ((k : Instance) × (slice_get walk.old.instances.items walk.old.place ≡ Some k) × IsEntered scopes.now.scopes.items body walk.old walk.new k) }
 {
     let element = part_count(walk.instances.as_slice(), walk.place);
     let lexical_parent = lexical_parent_of(
@@ -211,7 +211,7 @@ fn enter(alloc: Global, scopes: &Scopes, body: usize, walk: &mut Walk) -> Result
 /// Makes the instance around the current one the current one. Returns false if there is none.
 fn leave(walk: &mut Walk) -> bool
     requires { walk.old.place < length walk.old.instances.items }
-    ensures { (k : InstanceKept) × (slice_get walk.old.instances.items walk.old.place ≡ Some k) × IsLeft k.enclosing walk.old walk.new result }
+    ensures { (k : Instance) × (slice_get walk.old.instances.items walk.old.place ≡ Some k) × IsLeft k.enclosing walk.old walk.new result }
 {
     let one = &walk.instances[walk.place];
     match one.enclosing {
@@ -226,7 +226,7 @@ fn leave(walk: &mut Walk) -> bool
 /// Returns what comes next in the instance at an index.
 fn next_of(instances: &[Instance], scopes: &Scopes, place: usize) -> NextElement
     requires { place < length instances.now }
-    ensures { (k : InstanceKept) × (slice_get instances.now place ≡ Some k) × (result ≡ spec.next_in (elements_by (slice_get scopes.now.scopes.items k.scope)) (length k.parts)) }
+    ensures { (k : Instance) × (slice_get instances.now place ≡ Some k) × (result ≡ spec.next_in (elements_by (slice_get scopes.now.scopes.items k.scope)) (length k.parts)) }
 {
     let one = &instances[place];
     next_in(scopes, one.scope, one.parts.len())

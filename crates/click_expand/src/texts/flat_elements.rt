@@ -1,4 +1,4 @@
-//! A flat element by its place.
+//! Makes the flat element at a place of the configuration.
 
 ghost use Rattle.std.specs.Prelude.{◌≡◌, ◌<◌, ◌+◌, ℕ, List, length, slice_get, Some, IfOk, MatchOption};
 ghost use Rattle.click_scopes.specs.Analysis.{AreScopes};
@@ -6,7 +6,7 @@ ghost use Rattle.click_expand.specs.kept.Buffered.{AreKept};
 ghost use Rattle.click_expand.specs.Instances.{PrimitiveElement as Flattened};
 ghost use Rattle.click_expand.specs.kept.KnownInstances.{KnownInstance, AreInstances};
 ghost use Rattle.click_expand.specs.Flat.{flat_element};
-ghost use Rattle.click_expand.specs.declared.instances.tree.Place.{Place as Placed};
+ghost use Rattle.click_expand.specs.declared.instances.tree.Place.{Place};
 
 use crate::flat::FlatElement;
 use crate::instances::flat_names::name_of;
@@ -19,8 +19,10 @@ use click_scopes::Scopes;
 use click_text::syntax::Config;
 use std::alloc::{AllocError, Global};
 
-/// Returns the flat element at a place, or `None` if its text has more bytes than the buffer has
-/// room.
+/// Returns the flat element at a place, or `None` if its configuration string does not fit.
+///
+/// Each parameter in the configuration string is replaced by its value. The result is appended to
+/// the buffer if the buffer has room for it.
 pub fn element_at(
     alloc: Global,
     config: &Config,
@@ -31,10 +33,10 @@ pub fn element_at(
 ) -> Result<Option<FlatElement>, AllocError>
     requires scopes { AreScopes config.now scopes.now }
     requires within { place.within < length instances.now }
-    requires found { (places : List Placed) × (known : List KnownInstance) × (primitive_elements : List Flattened) × (n : ℕ) × AreInstances config.now instances.now places known primitive_elements × (slice_get places n ≡ Some place) }
+    requires found { (places : List Place) × (known : List KnownInstance) × (primitive_elements : List Flattened) × (n : ℕ) × AreInstances config.now instances.now places known primitive_elements × (slice_get places n ≡ Some place) }
     requires kept { AreKept config.now instances.now buffer.old }
     ensures kept { IfOk result (λ _. AreKept config.now instances.now buffer.new) }
-    ensures made { IfOk result (λ r. (places : List Placed) (known : List KnownInstance) (primitive_elements : List Flattened) (n : ℕ) (primitive_element : Flattened) → AreInstances config.now instances.now places known primitive_elements →
+    ensures made { IfOk result (λ r. (places : List Place) (known : List KnownInstance) (primitive_elements : List Flattened) (n : ℕ) (primitive_element : Flattened) → AreInstances config.now instances.now places known primitive_elements →
         slice_get places n ≡ Some place → slice_get primitive_elements n ≡ Some primitive_element →
         MatchOption r (buffer.old.room < length primitive_element.text) (λ e. (e ≡ flat_element primitive_element) × (buffer.new.room + length primitive_element.text ≡ buffer.old.room))) }
 {

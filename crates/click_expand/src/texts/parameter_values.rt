@@ -7,7 +7,7 @@ ghost use Rattle.click_expand.specs.Parameters.{scope_value, value_in};
 ghost use Rattle.click_expand.specs.Instances.{PrimitiveElement as Flattened};
 ghost use Rattle.click_expand.specs.kept.KnownInstances.{KnownInstance, AreInstances};
 ghost use Rattle.click_expand.specs.kept.ParameterValues.{IsValue};
-ghost use Rattle.click_expand.specs.declared.instances.tree.Place.{Place as Placed};
+ghost use Rattle.click_expand.specs.declared.instances.tree.Place.{Place};
 
 use crate::instances::tree::Instance;
 use crate::texts::parameters::formal_place;
@@ -54,7 +54,7 @@ fn own_value<'a>(
     name: &[u8],
 ) -> Option<ParameterValue<'a>>
     requires scopes { AreScopes config.now scopes.now }
-    ensures value { (places : List Placed) (known : List KnownInstance) (primitive_elements : List Flattened) (x : KnownInstance) → AreInstances config.now instances.now places known primitive_elements → slice_get known at ≡ Some x →
+    ensures value { (places : List Place) (known : List KnownInstance) (primitive_elements : List Flattened) (x : KnownInstance) → AreInstances config.now instances.now places known primitive_elements → slice_get known at ≡ Some x →
         IsValue config.now known result (scope_value config.now x.bindings x.scope name.now) }
     ensures before { IfSome result (λ v. v.reading.within < at) }
     ensures short { IfSome result (λ v. length v.reading.rest.now ≤ length config.now.text) }
@@ -95,7 +95,7 @@ pub fn value_at<'a>(
     name: &[u8],
 ) -> Option<ParameterValue<'a>>
     requires scopes { AreScopes config.now scopes.now }
-    ensures value { (places : List Placed) (known : List KnownInstance) (primitive_elements : List Flattened) (x : KnownInstance) → AreInstances config.now instances.now places known primitive_elements → slice_get known from ≡ Some x →
+    ensures value { (places : List Place) (known : List KnownInstance) (primitive_elements : List Flattened) (x : KnownInstance) → AreInstances config.now instances.now places known primitive_elements → slice_get known from ≡ Some x →
         IsValue config.now known result (value_in config.now x.bindings (x.scope ∷ x.enclosing) name.now) }
     ensures before { IfSome result (λ v. v.reading.within < from) }
     ensures short { IfSome result (λ v. length v.reading.rest.now ≤ length config.now.text) }

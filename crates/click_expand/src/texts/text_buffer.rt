@@ -3,7 +3,7 @@
 ghost use Rattle.std.specs.Prelude.{◌≡◌, ◌<◌, ◌≤◌, ◌+◌, ◌++◌, [], length, drop, true, false, Some, IfOk, OnOk, OnErr, if◌then◌else◌};
 ghost use Rattle.std.specs.Map.{lookup};
 ghost use Rattle.click_text.specs.Spans.{bytes_at};
-ghost use Rattle.click_expand.specs.declared.texts.parameter_values.Argument.{Argument as Given};
+ghost use Rattle.click_expand.specs.declared.texts.parameter_values.Argument.{Argument};
 ghost use Rattle.click_expand.specs.kept.Buffered.{same_argument};
 
 use crate::texts::parameter_values::Argument;
@@ -12,7 +12,7 @@ use indexmap::IndexMap;
 use std::alloc::{AllocError, Global};
 
 /// The maximum number of bytes of the texts of all flat elements.
-pub const MOST_TEXT: usize = 1_048_576;
+pub const MAX_FLAT_TEXT_BYTES: usize = 1_048_576;
 
 /// The texts of elements, one after another, and the number of bytes that may still be added.
 ///
@@ -34,7 +34,7 @@ impl TextBuffer {
         TextBuffer {
             text: Vec::new(alloc),
             values: IndexMap::new(alloc),
-            room: MOST_TEXT,
+            room: MAX_FLAT_TEXT_BYTES,
         }
     }
 
@@ -98,7 +98,7 @@ impl TextBuffer {
     ///
     /// If it fails with out of memory, the buffer is unchanged.
     pub fn keep(&mut self, argument: Argument, start: usize) -> Result<(), AllocError>
-        ensures kept { OnOk result ((a : Given) → lookup (same_argument a) self.new.values.entries ≡
+        ensures kept { OnOk result ((a : Argument) → lookup (same_argument a) self.new.values.entries ≡
             (if same_argument a argument then Some (record { start = start; end = length self.old.text.items }) else lookup (same_argument a) self.old.values.entries)) }
         ensures text { self.new.text ≡ self.old.text }
         ensures room { self.new.room ≡ self.old.room }

@@ -9,7 +9,7 @@ ghost use Rattle.click_expand.specs.kept.Spread.{Parts, IsShorter};
 ghost use Rattle.click_expand.specs.kept.Buffered.{AreKept, AreSteps, BeginWithin, IsRest, weight};
 ghost use Rattle.click_expand.specs.declared.texts.parameter_values.UnreadText.{UnreadText as Remaining};
 ghost use Rattle.click_expand.specs.declared.texts.writing.TextStep.TheVariants as step;
-ghost use Rattle.click_expand.specs.declared.instances.tree.Place.{Place as Placed};
+ghost use Rattle.click_expand.specs.declared.instances.tree.Place.{Place};
 
 use crate::instances::tree::Instance;
 use crate::texts::parameter_values::{Argument, ParameterValue, UnreadText, value_at};
@@ -48,7 +48,7 @@ fn part_of<'a>(
 ) -> TextPart<'a>
     requires scopes { AreScopes config.now scopes.now }
     requires some { 0 < length reading.rest.now }
-    ensures parts { (places : List Placed) (known : List KnownInstance) (primitive_elements : List Flattened) (whole : List ℕ) → AreInstances config.now instances.now places known primitive_elements → IsRead config.now known reading.entry whole →
+    ensures parts { (places : List Place) (known : List KnownInstance) (primitive_elements : List Flattened) (whole : List ℕ) → AreInstances config.now instances.now places known primitive_elements → IsRead config.now known reading.entry whole →
         Parts config.now known reading.entry.within reading.entry.rest.now whole result }
     ensures shorter { IsShorter config.now.text reading.entry.within reading.entry.rest.now result }
 {
@@ -103,9 +103,9 @@ fn read_on<'a>(
     requires kept { AreKept config.now instances.now buffer.old }
     ensures kept { IfOk result (λ _. AreKept config.now instances.now buffer.new) }
     ensures room { IfOk result (λ _. buffer.new.room + length buffer.new.text.items ≡ buffer.old.room + length buffer.old.text.items) }
-    ensures led { IfOk result (λ fits. fits ≡ true → (places : List Placed) (known : List KnownInstance) (primitive_elements : List Flattened) (whole : List ℕ) → AreInstances config.now instances.now places known primitive_elements →
+    ensures led { IfOk result (λ fits. fits ≡ true → (places : List Place) (known : List KnownInstance) (primitive_elements : List Flattened) (whole : List ℕ) → AreInstances config.now instances.now places known primitive_elements →
         AreSteps config.now known (steps.old.items ++ step.Read reading.entry ∷ []) buffer.old.text.items whole → AreSteps config.now known steps.new.items buffer.new.text.items whole) }
-    ensures full { IfOk result (λ fits. fits ≡ false → (places : List Placed) (known : List KnownInstance) (primitive_elements : List Flattened) (whole : List ℕ) → AreInstances config.now instances.now places known primitive_elements →
+    ensures full { IfOk result (λ fits. fits ≡ false → (places : List Place) (known : List KnownInstance) (primitive_elements : List Flattened) (whole : List ℕ) → AreInstances config.now instances.now places known primitive_elements →
         AreSteps config.now known (steps.old.items ++ step.Read reading.entry ∷ []) buffer.old.text.items whole → buffer.old.room + length buffer.old.text.items < length whole) }
     ensures begin { IfOk result (λ _. BeginWithin (length buffer.old.text.items) steps.old.items → BeginWithin (length buffer.new.text.items) steps.new.items) }
     ensures less { IfOk result (λ fits. weight config.now.text steps.new.items < weight config.now.text (steps.old.items ++ step.Read reading.entry ∷ [])) }
@@ -144,9 +144,9 @@ pub fn write_text<'a>(
     requires kept { AreKept config.now instances.now buffer.old }
     ensures kept { IfOk result (λ _. AreKept config.now instances.now buffer.new) }
     ensures room { IfOk result (λ _. buffer.new.room + length buffer.new.text.items ≡ buffer.old.room + length buffer.old.text.items) }
-    ensures fits { IfOk result (λ fits. fits ≡ true → (places : List Placed) (known : List KnownInstance) (primitive_elements : List Flattened) (whole : List ℕ) → AreInstances config.now instances.now places known primitive_elements →
+    ensures fits { IfOk result (λ fits. fits ≡ true → (places : List Place) (known : List KnownInstance) (primitive_elements : List Flattened) (whole : List ℕ) → AreInstances config.now instances.now places known primitive_elements →
         IsRead config.now known first.entry whole → buffer.new.text.items ≡ buffer.old.text.items ++ whole) }
-    ensures full { IfOk result (λ fits. fits ≡ false → (places : List Placed) (known : List KnownInstance) (primitive_elements : List Flattened) (whole : List ℕ) → AreInstances config.now instances.now places known primitive_elements →
+    ensures full { IfOk result (λ fits. fits ≡ false → (places : List Place) (known : List KnownInstance) (primitive_elements : List Flattened) (whole : List ℕ) → AreInstances config.now instances.now places known primitive_elements →
         IsRead config.now known first.entry whole → buffer.old.room < length whole) }
 {
     if first.rest.is_empty() {

@@ -13,7 +13,7 @@ use std::io::{self, BufRead, Read, Write};
 use thiserror::Error;
 
 /// The maximum number of bytes of a line: enough for a Poll of 32 packets of 1,600 bytes.
-const LONGEST_LINE: usize = 131_072;
+const MAX_LINE_BYTES: usize = 131_072;
 
 /// The fault at which the answering of calls stops. The calls before it were answered.
 #[derive(Clone, Copy, Debug, PartialEq, Eq, Error)]
@@ -83,7 +83,7 @@ pub fn answer_all<R: BufRead, W: Write, T: Handlers>(
 /// Reads a line, without its end.
 fn next_line<R: BufRead>(input: &mut R, line: &mut Vec<u8>) -> io::Result<LineRead> {
     line.clear();
-    let most = LONGEST_LINE as u64 + 1;
+    let most = MAX_LINE_BYTES as u64 + 1;
     if input.by_ref().take(most).read_until(b'\n', line)? == 0 {
         return Ok(LineRead::End);
     }
@@ -91,7 +91,7 @@ fn next_line<R: BufRead>(input: &mut R, line: &mut Vec<u8>) -> io::Result<LineRe
         let _end = line.pop();
         return Ok(LineRead::Line);
     }
-    if line.len() > LONGEST_LINE {
+    if line.len() > MAX_LINE_BYTES {
         return Ok(LineRead::TooLong);
     }
     Ok(LineRead::Line)

@@ -11,46 +11,48 @@ use clap::{ArgMatches, Command, Error};
 use click_cli::{CommandOption, OptionName, TEXT, Takes, parse};
 use std::alloc::Global;
 
-/// The options of a command line.
+/// The options that a command line of this mode gave.
 #[derive(Clone, Copy, Debug)]
 pub struct Options<'a> {
-    /// The configuration.
+    /// The text of the configuration, from `-e`.
     pub text: Option<&'a str>,
-    /// Whether the lines on standard input are those of a book, which are replayed.
+    /// Whether `--replay` was given: standard input has the lines of a book, whose calls are made
+    /// again.
     pub replay: bool,
 }
 
-/// The options of the command line.
+/// The options that this mode accepts.
 const OPTIONS: [CommandOption; 2] = [
     TEXT,
     CommandOption {
         id: "replay",
         name: OptionName::Long("replay"),
         takes: Takes::Nothing,
-        help: "The lines are those of --book: makes their calls again, and tells at which line the first reply differs",
+        help: "Replay the book on standard input, as click_prog --book prints it, and report the first reply that differs",
     },
 ];
 
-/// Returns the options of a command line, whose first word is `--calls`, or the error of clap.
+/// Returns the options that a command line gave, or the error of clap. The first word is
+/// `--calls`.
 ///
 /// `-e` takes the next word literally, even if it begins with `-`.
 pub fn options_of<'a>(alloc: Global, words: &'a [String]) -> Result<Options<'a>, Error>
-    // If clap finds no error, there is a text.
+    // If clap finds no error, the configuration was given.
     ensures text { IfOk result (λ options. is_some options.text ≡ true) }
-    // The options are those that some parse found.
+    // The options are those that clap found with some command; the clause does not say which.
     ensures asked { IfOk result (λ options. (command : Command) × (matches : ArgMatches) × IsParsedFrom command matches × AsksFor (found_of matches) options) }
 {
     let command = Command::new(alloc, "click_prog")
         .bin_name("click_prog --calls")?
-        .about("A Click router that answers calls, one a line, on standard input and output")
+        .about("Runs a Click router and answers calls, one per line, on standard input and output")
         .after_help(
-            "Calls: arrive DEVICE HEX, poll DEVICE HEX,HEX,.., round, transmit DEVICE, read NAME [TEXT], write NAME [TEXT],\ncheckread NAME, checkwrite NAME, swap TEXT. HEX is a packet, - one of no bytes; NAME is a handler, as c.count of the\nelement c. docs/CALLS.md has the replies.",
+            "Calls: arrive DEVICE HEX, poll DEVICE HEX,HEX,.., round, transmit DEVICE, read NAME [TEXT],\nwrite NAME [TEXT], checkread NAME, checkwrite NAME, swap TEXT. HEX is a packet in hex digits, or - for\nan empty one. NAME is a handler, such as c.count for the count of element c. docs/CALLS.md lists the\nreplies.",
         );
     let matches = parse(alloc, command, &OPTIONS, words)?;
     Ok(options_in(&matches))
 }
 
-/// Returns the options that clap found.
+/// Returns the options among the matches that clap found.
 fn options_in<'a>(matches: &ArgMatches<'a>) -> Options<'a>
     ensures { AsksFor (found_of matches.now) result }
 {

@@ -15,13 +15,13 @@ pub enum LineFault {
     NoMemory,
     #[error("the line has more than 131072 bytes")]
     TooLong,
-    #[error("its first word is no call's")]
+    #[error("the first word is not a call")]
     UnknownCall,
     #[error("a field is missing")]
     MissingField,
-    #[error("a field is empty: single spaces stand between fields")]
+    #[error("a field is empty; separate fields by single spaces")]
     EmptyField,
-    #[error("it has more fields than its call")]
+    #[error("the line has more fields than its call takes")]
     TooManyFields,
     #[error("{0}")]
     Packet(HexFault),

@@ -73,7 +73,7 @@ fn replay_call<T: Handlers>(
 }
 
 /// Replays lines, and writes the outcome as a line.
-pub fn tell_replayed<W: Write, T: Handlers>(
+pub fn write_outcome<W: Write, T: Handlers>(
     alloc: Global,
     output: &mut W,
     router: &mut Router<T>,

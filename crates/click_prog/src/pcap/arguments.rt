@@ -24,13 +24,13 @@ const OPTIONS: [CommandOption; 3] = [
         id: "from",
         name: OptionName::Long("in"),
         takes: Takes::NeededText("DEVICE"),
-        help: "The device whose source the packets enter at",
+        help: "Device at which packets enter: its FromDevice",
     },
     CommandOption {
         id: "sink",
         name: OptionName::Long("out"),
         takes: Takes::NeededText("DEVICE"),
-        help: "The device whose sink the packets leave by",
+        help: "Device at which packets leave: its ToDevice",
     },
 ];
 
@@ -46,7 +46,7 @@ pub fn options_of<'a>(alloc: Global, words: &'a [String]) -> Result<Options<'a>,
     let command = Command::new(alloc, "click_prog")
         .bin_name("click_prog --pcap")?
         .about(
-            "A Click router that takes a capture from standard input and writes one to standard output",
+            "Sends the packets of a pcap file on standard input through a Click router, and writes the result to standard output",
         );
     let matches = parse(alloc, command, &OPTIONS, words)?;
     Ok(Options {

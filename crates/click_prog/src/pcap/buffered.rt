@@ -3,15 +3,15 @@
 //! perf: one write of the sink takes many bytes.
 
 ghost use Rattle.std.specs.Prelude.{◌≡◌, ◌+◌, ◌<◌, ◌≤◌, [], ◌++◌, length, drop, is_err, IfOk, OnOk, OnErr, true, false, vec_len, vec_capacity};
-ghost use Rattle.click_control.specs.Peers.{HasWritten};
+ghost use Rattle.click_streams.specs.Peers.{HasWritten};
 ghost use Rattle.click_prog.specs.Buffers.{taken};
 
-use click_control::{Failed, Sink};
+use click_streams::{Failed, Sink};
 use std::alloc::{AllocError, Global};
 use std::marker::Model;
 
 /// The maximum number of bytes in a buffer.
-pub const ROOM: usize = 65_536;
+pub const BUFFER_BYTES: usize = 65_536;
 
 /// A sink with a buffer of bytes that are not written yet. They are written when the buffer is
 /// full, and by `flush`.
@@ -42,7 +42,7 @@ impl<O: Sink> Buffered<O> {
         requires { (O.output sink).failed ≡ false }
         ensures { IfOk result (λ buffered. (buffered.sink ≡ sink) × (buffered.held ≡ [])) }
     {
-        let held = Vec::with_capacity(alloc, ROOM)?;
+        let held = Vec::with_capacity(alloc, BUFFER_BYTES)?;
         Ok(Buffered {
             sink,
             held,
@@ -84,7 +84,7 @@ impl<O: Sink> Buffered<O> {
         if self.failed {
             return Err(Failed);
         }
-        if self.held.len() < ROOM {
+        if self.held.len() < BUFFER_BYTES {
             return Ok(());
         }
         self.flush()
@@ -98,7 +98,7 @@ impl<O: Sink> Sink for Buffered<O> {
         if let Err(Failed) = self.make_room() {
             return Err(Failed);
         }
-        let count = bytes.len().min(ROOM - self.held.len());
+        let count = bytes.len().min(BUFFER_BYTES - self.held.len());
         append(&mut self.held, &bytes[..count]);
         Ok(count)
     }

@@ -27,13 +27,13 @@ pub enum CarryFault {
         fault: TooLong,
     },
     /// The sink returned a packet each time that it was asked.
-    #[error("packet {number}, byte {at}: the sink was asked 1048576 times after it, and gave a packet each time")]
+    #[error("packet {number}, byte {at}: the sink returned 1048576 packets after this packet; fewer are allowed")]
     GivesOn {
         number: u64,
         at: u64,
     },
     /// 2^64 - 1 records were read. No run gets there.
-    #[error("18446744073709551615 packets were read, and no more are counted")]
+    #[error("18446744073709551615 packets were read, which is the maximum")]
     Uncounted,
     #[error("out of memory")]
     NoMemory,

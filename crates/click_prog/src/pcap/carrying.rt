@@ -2,34 +2,34 @@
 
 ghost use Rattle.std.specs.Prelude.{◌≡◌, ◌⊎◌, [], length, false, true, OnOk, OnErr};
 ghost use Rattle.click_capture.specs.Captures.{header_bytes};
-ghost use Rattle.click_control.specs.Peers.{Input as AnInput, Output as AnOutput, HasWritten};
+ghost use Rattle.click_streams.specs.Peers.{Input as AnInput, Output as AnOutput, HasWritten};
 ghost use Rattle.click_prog.specs.Reading.{Took, IsAtHand};
 ghost use Rattle.click_prog.specs.Buffers.{taken};
 ghost use Rattle.click_prog.specs.Passages.{PassageState, went};
 ghost use Rattle.click_prog.specs.Carrying.{widened_header, header_carry_fault, send_carry_fault, SendsAll, Passes, Carried, Ends, CarriesBehind, CarriesThrough};
 
 use crate::pcap::buffered::Buffered;
+use crate::pcap::capture_router::CaptureRouter;
 use crate::pcap::carry_fault::{CarryFault, SendFault};
-use crate::pcap::passage::Passage;
 use crate::pcap::reading::{
     HeaderReadFault, NextRecord, RecordReadFault, read_header, read_record,
 };
-use crate::pcap::ready::{Ready, is_at_hand};
+use crate::pcap::ready::{Ready, is_complete};
 use crate::pcap::tally::Tally;
-use crate::pcap::writing::write_all;
 use click_capture::{
-    HEAD_LEN, HEADER_LEN, Head, Header, LONGEST_RECORD, Time, header_bytes, record_bytes,
+    HEADER_LEN, Header, MAX_RECORD_BYTES, RECORD_HEADER_LEN, RecordHeader, Time, header_bytes,
+    record_bytes,
 };
-use click_control::{Failed, Sink, Source};
 use click_packet::TooLong;
+use click_streams::{Failed, Sink, Source, write_all};
 use std::alloc::Global;
 
 /// The minimum snap length of a written capture, in bytes: that of the longest packet. A router may
 /// make packets longer.
-const LEAST_SNAP: u32 = 1_600;
+const MIN_SNAP_BYTES: u32 = 1_600;
 
 /// The maximum number of times that the sink is asked after one packet has entered.
-const MOST_ASKED: u32 = 1_048_576;
+const MAX_PULLS: u32 = 1_048_576;
 
 /// Returns the header to write for one that was read: the same, but its snap length has room for
 /// every packet.
@@ -37,8 +37,8 @@ fn widened_header(header: &Header) -> Header
     ensures { result ≡ widened_header header.now }
 {
     let mut widened_header = *header;
-    if widened_header.snap != 0 && widened_header.snap < LEAST_SNAP {
-        widened_header.snap = LEAST_SNAP;
+    if widened_header.snap != 0 && widened_header.snap < MIN_SNAP_BYTES {
+        widened_header.snap = MIN_SNAP_BYTES;
     }
     widened_header
 }
@@ -51,7 +51,7 @@ fn widened_header(header: &Header) -> Header
 /// tally is kept up to date in both cases.
 pub fn carry<I: Source + Ready, O: Sink>(
     alloc: Global,
-    passage: &mut Passage,
+    passage: &mut CaptureRouter,
     reader: &mut I,
     writer: &mut Buffered<O>,
     tally: &mut Tally,
@@ -87,7 +87,7 @@ fn header_carry_fault(why: HeaderReadFault) -> CarryFault
 /// Writes the header of the written capture, and carries the records.
 fn carry_behind<I: Source + Ready, O: Sink>(
     alloc: Global,
-    passage: &mut Passage,
+    passage: &mut CaptureRouter,
     header: &Header,
     front: &[u8],
     reader: &mut I,
@@ -107,7 +107,7 @@ fn carry_behind<I: Source + Ready, O: Sink>(
 /// Carries the records. Allocates 262,144 bytes for a packet, whatever the capture claims.
 fn carry_records<I: Source + Ready, O: Sink>(
     alloc: Global,
-    passage: &mut Passage,
+    passage: &mut CaptureRouter,
     header: &Header,
     reader: &mut I,
     writer: &mut Buffered<O>,
@@ -117,7 +117,7 @@ fn carry_records<I: Source + Ready, O: Sink>(
         → Carried header.now had (I.input reader.old) held (taken O.output writer.old) first passage.old []
         → Ends header.now had (I.input reader.new) held (taken O.output writer.new) first passage.new result }
 {
-    let Ok(mut packet) = vec![in alloc; 0u8; LONGEST_RECORD as usize] else {
+    let Ok(mut packet) = vec![in alloc; 0u8; MAX_RECORD_BYTES as usize] else {
         return Err(CarryFault::NoMemory);
     };
     carry_each(
@@ -134,7 +134,7 @@ fn carry_records<I: Source + Ready, O: Sink>(
 /// Carries the records, each of which is read into `piece` in its turn.
 fn carry_each<I: Source + Ready, O: Sink>(
     alloc: Global,
-    passage: &mut Passage,
+    passage: &mut CaptureRouter,
     header: &Header,
     piece: &mut [u8],
     reader: &mut I,
@@ -176,7 +176,7 @@ fn carry_each<I: Source + Ready, O: Sink>(
         ) {
             return Err(send_carry_fault(why, number, at));
         }
-        at = at.saturating_add((HEAD_LEN + kept) as u64);
+        at = at.saturating_add((RECORD_HEADER_LEN + kept) as u64);
     }
     // No input has 2^64 - 1 records.
     Err(CarryFault::Uncounted)
@@ -192,7 +192,7 @@ fn flush_before_wait<I: Ready, O: Sink>(
     ensures none_waits { OnOk result ((writer.new.held ≡ []) ⊎ IsAtHand header.now (I.at_hand reader.now)) }
     ensures err { OnErr result (HasWritten (taken O.output writer.old) (taken O.output writer.new) [] true) }
 {
-    if is_at_hand(header, reader.ready()) {
+    if is_complete(header, reader.ready()) {
         return Ok(());
     }
     writer.flush()
@@ -212,9 +212,9 @@ fn send_carry_fault(why: SendFault, number: u64, at: u64) -> CarryFault
 /// Carries the packet of a record.
 fn carry_packet<O: Sink>(
     alloc: Global,
-    passage: &mut Passage,
+    passage: &mut CaptureRouter,
     header: &Header,
-    head: &Head,
+    head: &RecordHeader,
     bytes: &[u8],
     writer: &mut O,
     tally: &mut Tally,
@@ -232,7 +232,7 @@ fn carry_packet<O: Sink>(
 /// Writes the packets that the sink returns until it has none, as records of this time.
 fn send_all<O: Sink>(
     alloc: Global,
-    passage: &mut Passage,
+    passage: &mut CaptureRouter,
     header: &Header,
     time: Time,
     writer: &mut O,
@@ -241,7 +241,7 @@ fn send_all<O: Sink>(
     ensures sends { SendsAll header.now time passage.old passage.new (O.output writer.old) (O.output writer.new) result }
     ensures ends { passage.new ≡ went passage.old passage.new.router }
 {
-    for asked in 0..MOST_ASKED {
+    for asked in 0..MAX_PULLS {
         let Some(packet) = passage.sent() else {
             return Ok(());
         };

@@ -3,11 +3,14 @@
 ghost use Rattle.std.specs.Prelude.{◌≡◌, ◌≤◌, length, take, IfOk, OnErr};
 ghost use Rattle.click_capture.specs.Captures.{longest, head_bytes};
 ghost use Rattle.click_prog.specs.Reading.{Took, Fills, ReadFails, ReadsHeader, ReadsRecord};
-ghost use Rattle.click_control.specs.Peers.{Input};
-ghost use Rattle.click_capture.specs.declared.header.Header.{Header as AHeader};
+ghost use Rattle.click_streams.specs.Peers.{Input};
+ghost use Rattle.click_capture.specs.declared.header.Header.{Header};
 
-use click_capture::{HEAD_LEN, HEADER_LEN, Head, Header, HeaderFault, TooLong, head_of, header_of};
-use click_control::{Failed, Source};
+use click_capture::{
+    HEADER_LEN, Header, HeaderFault, RECORD_HEADER_LEN, RecordHeader, TooLong, header_of,
+    record_header_of,
+};
+use click_streams::{Failed, Source};
 
 /// The reason why no header was read.
 #[derive(Clone, Copy, Debug, PartialEq, Eq)]
@@ -22,7 +25,7 @@ pub enum HeaderReadFault {
 #[derive(Clone, Copy, Debug, PartialEq, Eq)]
 pub enum NextRecord {
     End,
-    Packet(Head),
+    Packet(RecordHeader),
 }
 
 /// The reason why no record was read.
@@ -77,14 +80,14 @@ pub fn read_record<R: Source>(
     ensures len { length packet.new ≡ 262144 }
     ensures reads { ReadsRecord header.now (R.input reader.old) (R.input reader.new) packet.new result }
 {
-    let mut bytes = [0; HEAD_LEN];
+    let mut bytes = [0; RECORD_HEADER_LEN];
     match fill(reader, &mut bytes) {
         Err(Failed) => return Err(RecordReadFault::ReadFailed),
         Ok(0) => return Ok(NextRecord::End),
-        Ok(count) if count < HEAD_LEN => return Err(RecordReadFault::Cut),
+        Ok(count) if count < RECORD_HEADER_LEN => return Err(RecordReadFault::Cut),
         Ok(_) => {}
     }
-    match head_of(header, &bytes) {
+    match record_header_of(header, &bytes) {
         Err(fault) => Err(RecordReadFault::TooLong(fault)),
         Ok(head) => read_packet(reader, head, packet),
     }
@@ -93,13 +96,13 @@ pub fn read_record<R: Source>(
 /// Reads the bytes of the packet that follows the record header `head`.
 fn read_packet<R: Source>(
     reader: &mut R,
-    head: Head,
+    head: RecordHeader,
     packet: &mut [u8],
 ) -> Result<NextRecord, RecordReadFault>
     requires room { length packet.old ≡ 262144 }
     requires kept { head.kept ≤ 262144 }
     ensures len { length packet.new ≡ 262144 }
-    ensures reads { (had : Input) (header : AHeader) → Took had (R.input reader.old) (head_bytes header.order head) → head.kept ≤ longest header.snap
+    ensures reads { (had : Input) (header : Header) → Took had (R.input reader.old) (head_bytes header.order head) → head.kept ≤ longest header.snap
         → ReadsRecord header had (R.input reader.new) packet.new result }
 {
     let kept = head.kept as usize;

@@ -4,8 +4,8 @@ ghost use Rattle.std.specs.Prelude.{◌≡◌, true};
 ghost use Rattle.std.specs.Io.Buffered.{reader_buffer};
 ghost use Rattle.click_prog.specs.Reading.{IsAtHand};
 
-use click_capture::{HEAD_LEN, Header, head_of};
-use click_control::Reading;
+use click_capture::{Header, RECORD_HEADER_LEN, record_header_of};
+use click_streams::Reading;
 use std::io::{BufReader, Read};
 
 /// A source that may have bytes in memory, which can be read without blocking.
@@ -31,14 +31,14 @@ impl<R: Read> Ready for Reading<BufReader<R>> {
 }
 
 /// Returns whether the next record can be read from these bytes alone.
-pub fn is_at_hand(header: &Header, ready: &[u8]) -> bool
+pub fn is_complete(header: &Header, ready: &[u8]) -> bool
     ensures { result ≡ true → IsAtHand header.now ready.now }
 {
-    if ready.len() < HEAD_LEN {
+    if ready.len() < RECORD_HEADER_LEN {
         return false;
     }
-    match head_of(header, &ready[..HEAD_LEN]) {
-        Ok(head) => head.kept as usize <= ready.len() - HEAD_LEN,
+    match record_header_of(header, &ready[..RECORD_HEADER_LEN]) {
+        Ok(head) => head.kept as usize <= ready.len() - RECORD_HEADER_LEN,
         Err(_too_long) => true,
     }
 }

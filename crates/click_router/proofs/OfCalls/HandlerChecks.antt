@@ -23,7 +23,7 @@ use Rattle.click_router.specs.Swap.{Swaps, installed, refused}
 use Rattle.click_router.specs.declared.call.Call.TheVariants as call
 use Rattle.click_router.specs.declared.call.Reply.{Reply}
 use Rattle.click_router.specs.declared.call.Reply.TheVariants as reply
-use Rattle.click_router.specs.declared.check.Direction.TheVariants as direction
+use Rattle.click_router.specs.declared.check.Access.TheVariants as direction
 
 -- the handler does not exist in this direction
 lacking : (other : Bool) → Foretells (check_of false other) (reply.Refused (refusal_of other))

@@ -158,11 +158,11 @@ defined text (statement.Requirement k ∷ v) w b e = defines-behind (statement.R
 -- The body is in one of these scopes, and its index is below the limit.
 pub record IsKnown (c : Config) (scopes : List Scope) (b limit : ℕ) : Type 0 where
   pub inner : List Statement
-  pub outer : List Scope
-  pub stands : Stands c (inside b) inner outer
+  pub parent : List Scope
+  pub stands : Stands c (inside b) inner parent
   pub below : b < limit
   pub front : List Scope
-  pub is : scopes ≡ front ++ outer
+  pub is : scopes ≡ front ++ parent
 
 direct-append : (xs ys : List Statement) → direct (xs ++ ys) ≡ direct xs ++ direct ys
 direct-append [] ys = refl
@@ -206,7 +206,7 @@ record IsStarted (c : Config) (s : Scope) (visible : List Statement) (enclosing 
 
 known-more : (c : Config) (s : Scope) (scopes : List Scope) (b limit more : ℕ) → limit ≤ more → IsKnown c scopes b limit → IsKnown c (s ∷ scopes) b more
 known-more c s scopes b limit more l k =
-    let m = k.below in record { inner = k.inner; outer = k.outer; stands = k.stands; below = omega arith; front = s ∷ k.front; is = ap (λ x. s ∷ x) k.is }
+    let m = k.below in record { inner = k.inner; parent = k.parent; stands = k.stands; below = omega arith; front = s ∷ k.front; is = ap (λ x. s ∷ x) k.is }
 
 -- a body that is defined in a scope
 known-here : (c : Config) (s : Scope) (visible : List Statement) (enclosing : List Scope) (before rest : List Statement) (n : Span) (b limit : ℕ) → Stands c s visible enclosing →
@@ -215,7 +215,7 @@ known-here c s visible enclosing before rest n b limit h e i l =
     let r = contains-split before (statement.Definition n b) i in
     record {
       inner = reverse r.0 ++ visible;
-      outer = s ∷ enclosing;
+      parent = s ∷ enclosing;
       stands = nested s visible enclosing r.0 (r.1 ++ rest) (statement.Definition n b) b h
           (e ∙ ap (λ x. x ++ rest) r.2 ∙ append_assoc r.0 (statement.Definition n b ∷ r.1) rest) (contains-here b []);
       below = l;
@@ -272,7 +272,7 @@ known-body c m s visible enclosing before after st b h e i =
     let j : Contains (direct (statements_of c s)) b = subst (λ x. Contains (direct x) b) (sym e) (direct-has c.bodies before st after b i) in
     record {
       inner = reverse before ++ visible;
-      outer = s ∷ enclosing;
+      parent = s ∷ enclosing;
       stands = nested s visible enclosing before after st b h e i;
       below = (nested_body-range c.bodies r.start (direct (statements_of c s)) (table_place c s) b r.nests j).1;
       front = [];

@@ -51,8 +51,8 @@ module _ (c : Config) where
     pub visible : List Statement
     pub enclosing : List Scope
     pub stands : Stands c (inside r.body) visible enclosing
-    pub shows : Shows c.text es r.top visible
-    pub outer : r.outer ≡ outer_of c enclosing
+    pub shows : Shows c.text es r.visible_class visible
+    pub parent : r.parent ≡ outer_of c enclosing
 
   -- the synonyms of a scope are among the definitions
   abbrev pub HasAll : List ClassEntry → Scope → List Statement → Type 0
@@ -90,12 +90,12 @@ module _ (c : Config) where
   pending-grown : (es new : List ClassEntry) (rs : List NestedBody) → IsMore es new → Each (IsPending es) rs → Each (IsPending new) rs
   pending-grown es new [] m h = tt
   pending-grown es new (r ∷ rs) m h = (
-    record { visible = h.0.visible; enclosing = h.0.enclosing; stands = h.0.stands; shows = shows-grown c.text es new r.top h.0.visible m h.0.shows; outer = h.0.outer },
+    record { visible = h.0.visible; enclosing = h.0.enclosing; stands = h.0.stands; shows = shows-grown c.text es new r.visible_class h.0.visible m h.0.shows; parent = h.0.parent },
     pending-grown es new rs m h.1,
   )
 
   scope-grown : (es new : List ClassEntry) (s : Scope) (v : List Statement) (a : List Scope) (k : WrittenScope) → IsMore es new → IsWrittenScope c es s v a k → IsWrittenScope c new s v a k
-  scope-grown es new s v a k m h = record { written = written-grown c.text es new k.written.items (placed v (statements_of c s)) m h.written; ports = h.ports; outer = h.outer }
+  scope-grown es new s v a k m h = record { written = written-grown c.text es new k.written.items (placed v (statements_of c s)) m h.written; ports = h.ports; parent = h.parent }
 
   all-grown : (es new : List ClassEntry) (s : Scope) (v : List Statement) → IsMore es new → HasAll es s v → HasAll new s v
   all-grown es new s v m h = λ before after n w e. synonym-grown c.text es new w (meaning c.text (reverse before ++ v) (bytes_at c.text w)) m (h before after n w e)
@@ -128,12 +128,12 @@ module _ (c : Config) where
       enclosing = s ∷ a;
       stands = nested s v a h.0.before h.0.after h.0.statement r.body k h.0.splits h.0.there;
       shows = h.0.shows;
-      outer = h.0.outer;
+      parent = h.0.parent;
     },
     nested_bodies-pending es s v a rs k h.1,
   )
 
-  pub walked-first : (es : List ClassEntry) (rs : List NestedBody) (k : WrittenScope) → IsNested c → AreWritten c.text es k.written.items (placed [] c.statements) → written_ports k.written.items ≡ ports_in c.statements → k.outer ≡ length c.bodies →
+  pub walked-first : (es : List ClassEntry) (rs : List NestedBody) (k : WrittenScope) → IsNested c → AreWritten c.text es k.written.items (placed [] c.statements) → written_ports k.written.items ≡ ports_in c.statements → k.parent ≡ length c.bodies →
       AreNestedBodies c.text es (length c.bodies) [] c.statements [] rs → AddsSynonyms c.text [] c.statements [] es → Walked es rs (k ∷ [])
   walked-first es rs k n w ports o r y = record {
     left = length c.bodies;
@@ -142,7 +142,7 @@ module _ (c : Config) where
     pending = subst (Each (IsPending es)) (sym r.is) (nested_bodies-pending es whole [] [] r.more at_top r.each);
     first = k;
     first_there = refl;
-    first_is = record { written = w; ports = ports; outer = o };
+    first_is = record { written = w; ports = ports; parent = o };
     first_synonyms = y.complete;
     sound = sound-more [] es whole [] [] at_top y sound-none;
     done = λ p l m. absurd (omega (arith, l, m));
@@ -198,10 +198,10 @@ module _ (c : Config) where
   at_end b m n h = omega (arith, h)
 
   pub walked-next : (es new : List ClassEntry) (all rs more : List NestedBody) (r : NestedBody) (ks ls : List WrittenScope) (k : WrittenScope) → all ≡ rs ++ r ∷ [] → Walked es all ks → IsMore es new →
-      ((v : List Statement) → Shows c.text es r.top v → AreWritten c.text new k.written.items (placed v (statements_of c (inside r.body)))) →
-      written_ports k.written.items ≡ ports_in (statements_of c (inside r.body)) → k.outer ≡ r.outer →
-      ((v : List Statement) → Shows c.text es r.top v → AreNestedBodies c.text new r.body v (statements_of c (inside r.body)) rs more) →
-      ((v : List Statement) → Shows c.text es r.top v → AddsSynonyms c.text v (statements_of c (inside r.body)) es new) →
+      ((v : List Statement) → Shows c.text es r.visible_class v → AreWritten c.text new k.written.items (placed v (statements_of c (inside r.body)))) →
+      written_ports k.written.items ≡ ports_in (statements_of c (inside r.body)) → k.parent ≡ r.parent →
+      ((v : List Statement) → Shows c.text es r.visible_class v → AreNestedBodies c.text new r.body v (statements_of c (inside r.body)) rs more) →
+      ((v : List Statement) → Shows c.text es r.visible_class v → AddsSynonyms c.text v (statements_of c (inside r.body)) es new) →
       ls ≡ ks ++ k ∷ [] → Walked new more ls
   walked-next es new all rs more r ks ls k e w m f ports o g y p =
       let t = taken es all rs r ks e w in
@@ -230,7 +230,7 @@ module _ (c : Config) where
               scope = k;
               stands = t.pending.stands;
               there = ap (λ y. slice_get y (length c.bodies - b)) p ∙ ap (slice_get (ks ++ k ∷ [])) (at_end b (length ks) (length c.bodies) count) ∙ slice_get-last ks k;
-              is = record { written = f v t.pending.shows; ports = ports; outer = o ∙ t.pending.outer };
+              is = record { written = f v t.pending.shows; ports = ports; parent = o ∙ t.pending.parent };
               synonyms = (y v t.pending.shows).complete;
             }) t.done l n;
       }
@@ -309,7 +309,7 @@ module _ (c : Config) where
   -- the first step of the walk, for the values that the code reads
   pub walk-first : (text : List ℕ) (ss : List Statement) (n : ℕ) (es : List ClassEntry) (rs0 rs : List NestedBody) (ks0 ks : List WrittenScope) (k : WrittenScope) →
       ks ≡ ks0 ++ k ∷ [] → ks0 ≡ [] → rs0 ≡ [] → text ≡ c.text → ss ≡ c.statements → n ≡ length c.bodies → IsNested c →
-      AreWritten text es k.written.items (placed [] ss) → written_ports k.written.items ≡ ports_in ss → k.outer ≡ n → AreNestedBodies text es n [] ss rs0 rs →
+      AreWritten text es k.written.items (placed [] ss) → written_ports k.written.items ≡ ports_in ss → k.parent ≡ n → AreNestedBodies text es n [] ss rs0 rs →
       (es0 : List ClassEntry) → es0 ≡ [] → AddsSynonyms text [] ss es0 es → Walked es rs ks
   walk-first text ss n es rs0 rs ks0 ks k e e0 r0 te se ne is_nested w ports o r es0 y0 y =
       subst (Walked es rs) (sym (e ∙ ap (λ x. x ++ k ∷ []) e0))
@@ -327,17 +327,17 @@ module _ (c : Config) where
 
   pub walk-next : (text : List ℕ) (ss : List Statement) (es new : List ClassEntry) (all rs more : List NestedBody) (r : NestedBody) (ks ls : List WrittenScope) (k : WrittenScope) →
       ls ≡ ks ++ k ∷ [] → all ≡ rs ++ r ∷ [] → text ≡ c.text → ss ≡ statements_of c (inside r.body) → Walked es all ks → IsMore es new →
-      ((v : List Statement) → Shows text es r.top v → AreWritten text new k.written.items (placed v ss)) → written_ports k.written.items ≡ ports_in ss → k.outer ≡ r.outer →
-      ((v : List Statement) → Shows text es r.top v → AreNestedBodies text new r.body v ss rs more) →
-      ((v : List Statement) → Shows text es r.top v → AddsSynonyms text v ss es new) → Walked new more ls
+      ((v : List Statement) → Shows text es r.visible_class v → AreWritten text new k.written.items (placed v ss)) → written_ports k.written.items ≡ ports_in ss → k.parent ≡ r.parent →
+      ((v : List Statement) → Shows text es r.visible_class v → AreNestedBodies text new r.body v ss rs more) →
+      ((v : List Statement) → Shows text es r.visible_class v → AddsSynonyms text v ss es new) → Walked new more ls
   walk-next text ss es new all rs more r ks ls k p e te se w m f ports o g y =
       walked-next es new all rs more r ks ls k e w m
       (λ v h. subst (λ x. AreWritten x new k.written.items (placed v (statements_of c (inside r.body)))) te
-      (subst (λ x. AreWritten text new k.written.items (placed v x)) se (f v (subst (λ x. Shows x es r.top v) (sym te) h))))
+      (subst (λ x. AreWritten text new k.written.items (placed v x)) se (f v (subst (λ x. Shows x es r.visible_class v) (sym te) h))))
       (ports ∙ ap ports_in se)
       o
       (λ v h. subst (λ x. AreNestedBodies x new r.body v (statements_of c (inside r.body)) rs more) te
-      (subst (λ x. AreNestedBodies text new r.body v x rs more) se (g v (subst (λ x. Shows x es r.top v) (sym te) h))))
+      (subst (λ x. AreNestedBodies text new r.body v x rs more) se (g v (subst (λ x. Shows x es r.visible_class v) (sym te) h))))
       (λ v h. subst (λ x. AddsSynonyms x v (statements_of c (inside r.body)) es new) te
-      (subst (λ x. AddsSynonyms text v x es new) se (y v (subst (λ x. Shows x es r.top v) (sym te) h))))
+      (subst (λ x. AddsSynonyms text v x es new) se (y v (subst (λ x. Shows x es r.visible_class v) (sym te) h))))
       p

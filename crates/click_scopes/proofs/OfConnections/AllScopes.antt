@@ -36,7 +36,7 @@ scope-is c es s v a w k h r =
       strings = strings-kept c.text es (is_body s) w.written.items ps k.elements.items h.written r.strings;
       arguments = r.arguments;
       connections = r.connections v (statements_of c s) (placed-written c.text es w.written.items ps h.written) h.ports;
-      parent = r.parent ∙ h.outer;
+      parent = r.parent ∙ h.parent;
     }
 
 pub all-scopes : (c : Config) (es : List ClassEntry) (ws : List WrittenScope) (all : List ScopeKept) (i : ℕ) → IsNested c → AreWrittenScopes c es ws → length ws ≤ i → Filled (ScopeAt c es) ws all i → AreAllScopes c all

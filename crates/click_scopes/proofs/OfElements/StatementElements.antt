@@ -82,25 +82,25 @@ module _ (text : List ℕ) where
   declared_by-all ws i l = ap (λ xs. names_declared text (elements_of xs)) (take_all i ws l)
 
   -- the next stored element, and the written element that it is
-  pub record NextWritten (entries : List ClassEntry) (w : WrittenElement) (ps : List Placed) (i : ℕ) : Type 0 where
+  pub record NextWritten (class_table : List ClassEntry) (w : WrittenElement) (ps : List Placed) (i : ℕ) : Type 0 where
     pub next : Placed
     pub here : drop i ps ≡ next ∷ drop (i + 1) ps
-    pub is : IsWrittenElement text entries w next
+    pub is : IsWrittenElement text class_table w next
 
-  pub next_written : (entries : List ClassEntry) (ws : List WrittenElement) (ps : List Placed) (i : ℕ) (d : WrittenElement) → AreWritten text entries ws ps → i < length ws →
-      NextWritten entries (get_or ws i d) ps i
-  next_written entries [] ps i d h l = absurd (omega (arith, l))
-  next_written entries (w ∷ ws) [] i d h l = absurd h
-  next_written entries (w ∷ ws) (p ∷ ps) zero d h l = record { next = p; here = refl; is = h.0 }
-  next_written entries (w ∷ ws) (p ∷ ps) (suc i) d h l =
-      let r = next_written entries ws ps i d h.1 (omega (arith, l)) in
+  pub next_written : (class_table : List ClassEntry) (ws : List WrittenElement) (ps : List Placed) (i : ℕ) (d : WrittenElement) → AreWritten text class_table ws ps → i < length ws →
+      NextWritten class_table (get_or ws i d) ps i
+  next_written class_table [] ps i d h l = absurd (omega (arith, l))
+  next_written class_table (w ∷ ws) [] i d h l = absurd h
+  next_written class_table (w ∷ ws) (p ∷ ps) zero d h l = record { next = p; here = refl; is = h.0 }
+  next_written class_table (w ∷ ws) (p ∷ ps) (suc i) d h l =
+      let r = next_written class_table ws ps i d h.1 (omega (arith, l)) in
       record { next = r.next; here = (let e : suc (i + 1) ≡ suc i + 1 = omega arith in r.here ∙ ap (λ n. r.next ∷ drop n (p ∷ ps)) e); is = r.is }
 
-  pub written-length : (entries : List ClassEntry) (ws : List WrittenElement) (ps : List Placed) → AreWritten text entries ws ps → length ps ≡ length ws
-  written-length entries [] [] h = refl
-  written-length entries [] (p ∷ ps) h = absurd h
-  written-length entries (w ∷ ws) [] h = absurd h
-  written-length entries (w ∷ ws) (p ∷ ps) h = ap suc (written-length entries ws ps h.1)
+  pub written-length : (class_table : List ClassEntry) (ws : List WrittenElement) (ps : List Placed) → AreWritten text class_table ws ps → length ps ≡ length ws
+  written-length class_table [] [] h = refl
+  written-length class_table [] (p ∷ ps) h = absurd h
+  written-length class_table (w ∷ ws) [] h = absurd h
+  written-length class_table (w ∷ ws) (p ∷ ps) h = ap suc (written-length class_table ws ps h.1)
 
   module _ (in_body : Bool) (declared : List (List ℕ)) where
     pub scope_elements-made : (n : ℕ) (p : Placed) (ps : List Placed) → role text in_body declared p.element ≡ makes →
@@ -126,13 +126,13 @@ module _ (text : List ℕ) where
     pub made-none : (ps : List Placed) → scope_elements_from text in_body declared 0 ps ≡ with_left [] ps
     made-none ps = refl
 
-    module _ (entries : List ClassEntry) (ws : List WrittenElement) (ps : List Placed) (h : AreWritten text entries ws ps) where
+    module _ (class_table : List ClassEntry) (ws : List WrittenElement) (ps : List Placed) (h : AreWritten text class_table ws ps) where
       pub made-more : (ls : List ScopeElementKept) (l : ScopeElementKept) (n i : ℕ) (d w : WrittenElement) → i < length ws → w ≡ get_or ws i d → n ≡ length ls →
-          role text in_body declared w.element ≡ makes → ((p : Placed) → IsWrittenElement text entries w p → scope_element_of text l ≡ scope_element text n p) →
+          role text in_body declared w.element ≡ makes → ((p : Placed) → IsWrittenElement text class_table w p → scope_element_of text l ≡ scope_element text n p) →
           with_left ls (drop i ps) ≡ with_left (ls ++ l ∷ []) (drop (i + 1) ps)
       made-more ls l n i d w lt is nl m g =
-          let r = next_written entries ws ps i d h lt in
-          let t : IsWrittenElement text entries w r.next = subst (λ x. IsWrittenElement text entries x r.next) (sym is) r.is in
+          let r = next_written class_table ws ps i d h lt in
+          let t : IsWrittenElement text class_table w r.next = subst (λ x. IsWrittenElement text class_table x r.next) (sym is) r.is in
           let k : role text in_body declared r.next.element ≡ makes = ap (role text in_body declared) (sym t.element) ∙ m in
           let rest = scope_elements_from text in_body declared (length ls + 1) (drop (i + 1) ps) in
           ap (with_left ls) r.here
@@ -145,15 +145,15 @@ module _ (text : List ℕ) where
       pub made-other : (ls : List ScopeElementKept) (i : ℕ) (d w : WrittenElement) (r : Role) → i < length ws → w ≡ get_or ws i d →
           role text in_body declared w.element ≡ r → (r ≡ makes → ⊥) → with_left ls (drop i ps) ≡ with_left ls (drop (i + 1) ps)
       made-other ls i d w o lt is m k =
-          let r = next_written entries ws ps i d h lt in
-          let t : IsWrittenElement text entries w r.next = subst (λ x. IsWrittenElement text entries x r.next) (sym is) r.is in
+          let r = next_written class_table ws ps i d h lt in
+          let t : IsWrittenElement text class_table w r.next = subst (λ x. IsWrittenElement text class_table x r.next) (sym is) r.is in
           ap (with_left ls) r.here
           ∙ ap (λ xs. map (scope_element_of text) ls ++ xs)
           (scope_elements-other (length ls) r.next (drop (i + 1) ps) o (ap (role text in_body declared) (sym t.element) ∙ m) k)
 
       pub made-all : (ls : List ScopeElementKept) (i : ℕ) → length ws ≤ i → with_left ls (drop i ps) ≡ map (scope_element_of text) ls
       made-all ls i l =
-          at_drop_all (with_left ls) ps i (omega (arith, written-length entries ws ps h))
+          at_drop_all (with_left ls) ps i (omega (arith, written-length class_table ws ps h))
           ∙ ap (λ xs. map (scope_element_of text) ls ++ xs) (scope_elements-end (length ls)) ∙ append-nil (map (scope_element_of text) ls)
 
     -- the configuration strings of the elements made so far, and of those that the rest will make

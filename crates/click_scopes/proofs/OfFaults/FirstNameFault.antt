@@ -30,13 +30,13 @@ use Rattle.click_scopes.proofs.OfFaults.ScopeNameFaults.{WrongHere, scope_elemen
 
 -- a misuse in the whole text or in a body, or a synonym of an unknown class
 abbrev pub AnyWrong : Config → List ClassEntry → List ScopeKept → TokenFault → Type 0
-AnyWrong c entries all w = (IsWrongAt c all (length c.bodies) w ⊎ IsNameFaultWithin c all (length c.bodies) w) ⊎ IsWrongEntry entries (length entries) w
+AnyWrong c class_table all w = (IsWrongAt c all (length c.bodies) w ⊎ IsNameFaultWithin c all (length c.bodies) w) ⊎ IsWrongEntry class_table (length class_table) w
 
 -- a misuse is found that comes no later
 abbrev Found : Config → List ClassEntry → List ScopeKept → TokenFault → Type 0
-Found c entries all w = (x : TokenFault) × AnyWrong c entries all x × AtMost x w
+Found c class_table all w = (x : TokenFault) × AnyWrong c class_table all x × AtMost x w
 
-module _ (c : Config) (entries : List ClassEntry) (all : List ScopeKept) (n : IsNested c) (ls : AreAllScopes c all) (ys : AreSynonyms c entries) where
+module _ (c : Config) (class_table : List ClassEntry) (all : List ScopeKept) (n : IsNested c) (ls : AreAllScopes c all) (ys : AreSynonyms c class_table) where
   scope-sound : (s : Scope) (v : List Statement) (a : List Scope) → Stands c s v a → (w : TokenFault) → IsWrongAt c all (table_place c s) w → IsNameFault c w
   scope-sound s v a st w h =
       let x = ls s v a st in let es = x.0.elements.items in
@@ -52,12 +52,12 @@ module _ (c : Config) (entries : List ClassEntry) (all : List ScopeKept) (n : Is
         | inr q ↦ formal-sound c h.place p.visible p.enclosing p.stands w q
       ]
 
-  any-sound : (w : TokenFault) → AnyWrong c entries all w → IsNameFault c w
+  any-sound : (w : TokenFault) → AnyWrong c class_table all w → IsNameFault c w
   any-sound w (inl (inl h)) = scope-sound whole [] [] at_top w h
   any-sound w (inl (inr h)) = body-sound w h
-  any-sound w (inr h) = entry-sound c entries ys w h
+  any-sound w (inr h) = entry-sound c class_table ys w h
 
-  scope-any : (s : Scope) (v : List Statement) (a : List Scope) → Stands c s v a → (x : TokenFault) → IsWrongAt c all (table_place c s) x → AnyWrong c entries all x
+  scope-any : (s : Scope) (v : List Statement) (a : List Scope) → Stands c s v a → (x : TokenFault) → IsWrongAt c all (table_place c s) x → AnyWrong c class_table all x
   scope-any whole v a st x h = inl (inl h)
   scope-any (inside b) v a st x h = inl (inr (record { place = b; within = inside-within c n (inside b) v a st b refl; is = inl h }))
 
@@ -65,7 +65,7 @@ module _ (c : Config) (entries : List ClassEntry) (all : List ScopeKept) (n : Is
       role_in c s v p ≡ makes → (w : TokenFault) →
       ((items : List ScopeElementKept) (k : IsKept c.text (is_body s) (scope_declared c s v) items front p) →
       WrongHere c (is_body s) (has_name k.element.name.items (local_names (take (length (scope_elements_from c.text (is_body s) (scope_declared c s v) 0 front)) items))) k.element w) →
-      Found c entries all w
+      Found c class_table all w
   scope-found s v a st front p back e r w f =
       let x = ls s v a st in
       let q = scope_element-found c s v a st x.0.elements.items x.2.elements x.2.strings front p back e r w (f x.0.elements.items) in (
@@ -77,7 +77,7 @@ module _ (c : Config) (entries : List ClassEntry) (all : List ScopeKept) (n : Is
       )
 
   -- for each misuse of a name, class or declaration, one is found that comes no later
-  any-found : (k : WrongUse) (t : Span) → IsWrong c k t → fault_number k ≤ 13 → Found c entries all (token_fault k t)
+  any-found : (k : WrongUse) (t : Span) → IsWrong c k t → fault_number k ≤ 13 → Found c class_table all (token_fault k t)
   any-found k t (unknown_name s v a front back p w st e r eh et em) l =
       scope-found s v a st front p back e r (token_fault kind.UnknownName w)
       (λ items x. unknown-here c s v a st front p back e r items x (head.Word w) None (token_fault kind.UnknownName w) eh et em refl)
@@ -91,8 +91,8 @@ module _ (c : Config) (entries : List ClassEntry) (all : List ScopeKept) (n : Is
       scope-found s v a st front p back e r (token_fault kind.UnknownClass w)
       (λ items x. unknown-here c s v a st front p back e r items x (head.Declared m (class.Named w)) p.element.text (token_fault kind.UnknownClass w) eh refl em refl)
   any-found k t (unknown_original s v a before after m w st e q) l =
-      let P = AnyWrong c entries all in
-      at_most-same P (token_fault kind.UnknownClass w) (inr (entry-found c entries ys s v a before after m w st e q))
+      let P = AnyWrong c class_table all in
+      at_most-same P (token_fault kind.UnknownClass w) (inr (entry-found c class_table ys s v a before after m w st e q))
   any-found k t (named_twice s v a front back p st e r why q) l =
       scope-found s v a st front p back e r (token_fault kind.DeclaredTwice (first_token c p.element.head))
       (λ items x. twice-here c s v a st front p back e r items x why q)
@@ -101,7 +101,7 @@ module _ (c : Config) (entries : List ClassEntry) (all : List ScopeKept) (n : Is
       scope-found (inside b) v a st front p back e r (token_fault kind.DeclaredTwice m)
       (λ items x. port-here c (inside b) v a st front p back e r items x m d eh refl q)
   any-found k t (formal_twice b v a front back f st e q) l =
-      let P = AnyWrong c entries all in
+      let P = AnyWrong c class_table all in
       at_most-same P (token_fault kind.DeclaredTwice f)
       (inl (inr (record { place = b; within = inside-within c n (inside b) v a st b refl; is = inr (formal-found c b v a st front back f e q) })))
   any-found k t (wrong_parameters s v a front back p b fs st e r m x y) l = absurd (omega (arith, l))
@@ -113,8 +113,8 @@ module _ (c : Config) (entries : List ClassEntry) (all : List ScopeKept) (n : Is
   any-found k t (output_gap b v a p st e x) l = absurd (omega (arith, l))
 
   pub first-name_fault : (first bodies originals : Option TokenFault) → IsLeast (IsWrongAt c all (length c.bodies)) first → IsLeast (IsNameFaultWithin c all (length c.bodies)) bodies →
-      IsLeast (IsWrongEntry entries (length entries)) originals → IsLeast (IsNameFault c) (first_of (first_of first bodies) originals)
+      IsLeast (IsWrongEntry class_table (length class_table)) originals → IsLeast (IsNameFault c) (first_of (first_of first bodies) originals)
   first-name_fault first bodies originals f b o =
-      least-before (AnyWrong c entries all) (IsNameFault c) (first_of (first_of first bodies) originals) any-sound (λ w q. any-found w.kind w.span q.wrong q.kind)
-      (least-first_of (λ w. IsWrongAt c all (length c.bodies) w ⊎ IsNameFaultWithin c all (length c.bodies) w) (IsWrongEntry entries (length entries)) (first_of first bodies) originals
+      least-before (AnyWrong c class_table all) (IsNameFault c) (first_of (first_of first bodies) originals) any-sound (λ w q. any-found w.kind w.span q.wrong q.kind)
+      (least-first_of (λ w. IsWrongAt c all (length c.bodies) w ⊎ IsNameFaultWithin c all (length c.bodies) w) (IsWrongEntry class_table (length class_table)) (first_of first bodies) originals
       (least-first_of (IsWrongAt c all (length c.bodies)) (IsNameFaultWithin c all (length c.bodies)) first bodies f b) o)

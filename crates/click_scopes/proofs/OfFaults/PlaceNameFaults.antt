@@ -38,28 +38,28 @@ at_most-self w = inr (refl, omega arith)
 pub at_most-same : (P : TokenFault → Type 0) (w : TokenFault) → P w → (v : TokenFault) × P v × AtMost v w
 at_most-same P w p = (w, p, at_most-self w)
 
-module _ (entries : List ClassEntry) where
-  pub entries-none : IsLeast (IsWrongEntry entries 0) None
-  entries-none = λ w h. let l = h.within in omega (arith, l)
+module _ (class_table : List ClassEntry) where
+  pub class_table-none : IsLeast (IsWrongEntry class_table 0) None
+  class_table-none = λ w h. let l = h.within in omega (arith, l)
 
-  pub entries-next : (i : ℕ) (d e : ClassEntry) (o r : Option TokenFault) → i < length entries → e ≡ get_or entries i d → r ≡ first_of o (original_at e.original e.class) →
-      IsLeast (IsWrongEntry entries i) o → IsLeast (IsWrongEntry entries (i + 1)) r
-  entries-next i d e o r l is q h =
+  pub class_table-next : (i : ℕ) (d e : ClassEntry) (o r : Option TokenFault) → i < length class_table → e ≡ get_or class_table i d → r ≡ first_of o (original_at e.original e.class) →
+      IsLeast (IsWrongEntry class_table i) o → IsLeast (IsWrongEntry class_table (i + 1)) r
+  class_table-next i d e o r l is q h =
       let here = original_at e.original e.class in
-      let there : slice_get entries i ≡ Some e = slice_get-get_or entries i d l ∙ ap Some (sym is) in
-      subst (IsLeast (IsWrongEntry entries (i + 1))) (sym q)
-      (least-same (λ w. IsWrongEntry entries i w ⊎ (here ≡ Some w)) (IsWrongEntry entries (i + 1)) (first_of o here)
+      let there : slice_get class_table i ≡ Some e = slice_get-get_or class_table i d l ∙ ap Some (sym is) in
+      subst (IsLeast (IsWrongEntry class_table (i + 1))) (sym q)
+      (least-same (λ w. IsWrongEntry class_table i w ⊎ (here ≡ Some w)) (IsWrongEntry class_table (i + 1)) (first_of o here)
       (λ w c. elim c [
         | inl p ↦ record { place = p.place; entry = p.entry; within = (let m = p.within in omega (arith, m)); there = p.there; is = p.is }
         | inr p ↦ record { place = i; entry = e; within = omega arith; there = there; is = p }
       ])
       (λ w p. elim (cases_order p.place i) [
-        | inl s ↦ inr (let f : e ≡ p.entry = some_same (sym there ∙ ap (slice_get entries) (sym s) ∙ p.there) in
+        | inl s ↦ inr (let f : e ≡ p.entry = some_same (sym there ∙ ap (slice_get class_table) (sym s) ∙ p.there) in
             ap (λ (x : ClassEntry). original_at x.original x.class) f ∙ p.is)
         | inr (inl s) ↦ inl (record { place = p.place; entry = p.entry; within = s; there = p.there; is = p.is })
         | inr (inr s) ↦ absurd (let m = p.within in omega (arith, m, s))
       ])
-      (least-first_of (IsWrongEntry entries i) (λ w. here ≡ Some w) o here h (least-alone here)))
+      (least-first_of (IsWrongEntry class_table i) (λ w. here ≡ Some w) o here h (least-alone here)))
 
 module _ (c : Config) (all : List ScopeKept) where
   -- the misuse at an index, for the values that the code reads

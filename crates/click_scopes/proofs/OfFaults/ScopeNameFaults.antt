@@ -253,8 +253,8 @@ original-is None m w h = absurd (cc h)
 original-is (Some x) None w h = (x, refl, refl, some_same h)
 original-is (Some x) (Some m) w h = absurd (cc h)
 
-module _ (c : Config) (entries : List ClassEntry) (ys : AreSynonyms c entries) where
-  pub entry-sound : (w : TokenFault) → IsWrongEntry entries (length entries) w → IsNameFault c w
+module _ (c : Config) (class_table : List ClassEntry) (ys : AreSynonyms c class_table) where
+  pub entry-sound : (w : TokenFault) → IsWrongEntry class_table (length class_table) w → IsNameFault c w
   entry-sound w q =
       let r = original-is q.entry.original q.entry.class w q.is in
       let y = ys.sound q.place q.entry r.0 q.there r.1 in
@@ -262,13 +262,13 @@ module _ (c : Config) (entries : List ClassEntry) (ys : AreSynonyms c entries) w
       (unknown_original y.scope y.visible y.enclosing y.before y.after y.name r.0 y.stands y.splits (sym y.meaning ∙ ap meaning_by r.2))
 
   pub entry-found : (s : Scope) (v : List Statement) (a : List Scope) (before after : List Statement) (n w : Span) → Stands c s v a → statements_of c s ≡ before ++ statement.Synonym n w ∷ after →
-      meaning c.text (reverse before ++ v) (bytes_at c.text w) ≡ None → IsWrongEntry entries (length entries) (token_fault kind.UnknownClass w)
+      meaning c.text (reverse before ++ v) (bytes_at c.text w) ≡ None → IsWrongEntry class_table (length class_table) (token_fault kind.UnknownClass w)
   entry-found s v a before after n w st e m =
       let y = ys.complete s v a before after n w st e in
       record {
         place = y.0;
         entry = y.1;
-        within = slice_get_within entries y.0 y.1 y.2;
+        within = slice_get_within class_table y.0 y.1 y.2;
         there = y.2;
         is = ap (λ o. original_at o y.1.class) y.3 ∙ ap (original_at (Some w)) (class-none y.1.class (y.4 ∙ m));
       }

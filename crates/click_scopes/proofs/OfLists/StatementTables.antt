@@ -37,25 +37,25 @@ pub each-append : {X : Type 0} (P : X → Type 0) (xs ys : List X) → Each P xs
 each-append P [] ys h k = k
 each-append P (x ∷ xs) ys h k = (h.0, each-append P xs ys h.1 k)
 
-nested_bodies-bodies : (scope : ℕ) (top : Option ℕ) (bs : List ℕ) → map (λ (r : NestedBody). r.body) (map (nested_body scope top) bs) ≡ bs
-nested_bodies-bodies scope top [] = refl
-nested_bodies-bodies scope top (b ∷ bs) = ap (λ x. b ∷ x) (nested_bodies-bodies scope top bs)
+nested_bodies-bodies : (scope : ℕ) (visible_class : Option ℕ) (bs : List ℕ) → map (λ (r : NestedBody). r.body) (map (nested_body scope visible_class) bs) ≡ bs
+nested_bodies-bodies scope visible_class [] = refl
+nested_bodies-bodies scope visible_class (b ∷ bs) = ap (λ x. b ∷ x) (nested_bodies-bodies scope visible_class bs)
 
-pub nested_body-links : (outer : ℕ) (top : Option ℕ) (ls : List Link) (i : ℕ) (d : Link) → i < length ls →
-    map (nested_body outer top) (link_bodies (drop i ls)) ≡ map (nested_body outer top) (head_bodies (get_or ls i d).element.head) ++ map (nested_body outer top) (link_bodies (drop (i + 1) ls))
-nested_body-links outer top ls i d l =
-    at_drop_more (λ xs. map (nested_body outer top) (link_bodies xs)) ls i d l ∙ map-append (nested_body outer top) (head_bodies (get_or ls i d).element.head) (link_bodies (drop (i + 1) ls))
+pub nested_body-links : (parent : ℕ) (visible_class : Option ℕ) (ls : List Link) (i : ℕ) (d : Link) → i < length ls →
+    map (nested_body parent visible_class) (link_bodies (drop i ls)) ≡ map (nested_body parent visible_class) (head_bodies (get_or ls i d).element.head) ++ map (nested_body parent visible_class) (link_bodies (drop (i + 1) ls))
+nested_body-links parent visible_class ls i d l =
+    at_drop_more (λ xs. map (nested_body parent visible_class) (link_bodies xs)) ls i d l ∙ map-append (nested_body parent visible_class) (head_bodies (get_or ls i d).element.head) (link_bodies (drop (i + 1) ls))
 
 pub more-more : (a b c : List ClassEntry) → IsMore a b → IsMore b c → IsMore a c
 more-more a b c h k = (h.0 ++ k.0, k.1 ∙ ap (λ x. x ++ k.0) h.1 ∙ append_assoc a h.0 k.0)
 
 module _ (text : List ℕ) where
   -- what is visible stays the same when definitions are appended
-  pub shows-more : (old more : List ClassEntry) (top : Option ℕ) (vs : List Statement) → Shows text old top vs → Shows text (old ++ more) top vs
-  shows-more old more top [] h = h
-  shows-more old more top (statement.Chain k ∷ vs) h = shows-more old more top vs h
-  shows-more old more top (statement.Declaration d ∷ vs) h = shows-more old more top vs h
-  shows-more old more top (statement.Definition n b ∷ vs) h = record {
+  pub shows-more : (old more : List ClassEntry) (visible_class : Option ℕ) (vs : List Statement) → Shows text old visible_class vs → Shows text (old ++ more) visible_class vs
+  shows-more old more visible_class [] h = h
+  shows-more old more visible_class (statement.Chain k ∷ vs) h = shows-more old more visible_class vs h
+  shows-more old more visible_class (statement.Declaration d ∷ vs) h = shows-more old more visible_class vs h
+  shows-more old more visible_class (statement.Definition n b ∷ vs) h = record {
     place = h.place;
     entry = h.entry;
     is = h.is;
@@ -65,7 +65,7 @@ module _ (text : List ℕ) where
     below = h.below;
     older = shows-more old more h.entry.older vs h.older;
   }
-  shows-more old more top (statement.Synonym n d ∷ vs) h = record {
+  shows-more old more visible_class (statement.Synonym n d ∷ vs) h = record {
     place = h.place;
     entry = h.entry;
     is = h.is;
@@ -75,39 +75,39 @@ module _ (text : List ℕ) where
     below = h.below;
     older = shows-more old more h.entry.older vs h.older;
   }
-  shows-more old more top (statement.Requirement t ∷ vs) h = shows-more old more top vs h
+  shows-more old more visible_class (statement.Requirement t ∷ vs) h = shows-more old more visible_class vs h
 
-  pub shows-grown : (old new : List ClassEntry) (top : Option ℕ) (vs : List Statement) → IsMore old new → Shows text old top vs → Shows text new top vs
-  shows-grown old new top vs m h = subst (λ es. Shows text es top vs) (sym m.1) (shows-more old m.0 top vs h)
+  pub shows-grown : (old new : List ClassEntry) (visible_class : Option ℕ) (vs : List Statement) → IsMore old new → Shows text old visible_class vs → Shows text new visible_class vs
+  shows-grown old new visible_class vs m h = subst (λ es. Shows text es visible_class vs) (sym m.1) (shows-more old m.0 visible_class vs h)
 
   -- a definition at the end
-  defined-there : (es : List ClassEntry) (top : Option ℕ) (vs : List Statement) (e : ClassEntry) (n : Span) (m : Option Meaning) → e.name ≡ n → meaning_by e.class ≡ m → e.older ≡ top → Shows text es top vs →
+  defined-there : (es : List ClassEntry) (visible_class : Option ℕ) (vs : List Statement) (e : ClassEntry) (n : Span) (m : Option Meaning) → e.name ≡ n → meaning_by e.class ≡ m → e.older ≡ visible_class → Shows text es visible_class vs →
       IsShown text (es ++ e ∷ []) (Some (length es)) n m (λ t. Shows text (es ++ e ∷ []) t vs)
-  defined-there es top vs e n m p q r h = record {
+  defined-there es visible_class vs e n m p q r h = record {
     place = length es;
     entry = e;
     is = refl;
     there = slice_get-last es e;
     same_name = p;
     class = q;
-    below = subst (λ t. IsBelow t (length es)) (sym r) (shown-below text es top vs h);
-    older = subst (λ t. Shows text (es ++ e ∷ []) t vs) (sym r) (shows-more es (e ∷ []) top vs h);
+    below = subst (λ t. IsBelow t (length es)) (sym r) (shown-below text es visible_class vs h);
+    older = subst (λ t. Shows text (es ++ e ∷ []) t vs) (sym r) (shows-more es (e ∷ []) visible_class vs h);
   }
 
-  pub defined : (es : List ClassEntry) (top : Option ℕ) (vs : List Statement) (st : Statement) (e : ClassEntry) → IsEntry text vs top st (Some e) → Shows text es top vs →
+  pub defined : (es : List ClassEntry) (visible_class : Option ℕ) (vs : List Statement) (st : Statement) (e : ClassEntry) → IsEntry text vs visible_class st (Some e) → Shows text es visible_class vs →
       Shows text (es ++ e ∷ []) (Some (length es)) (st ∷ vs)
-  defined es top vs (statement.Chain k) e d h = absurd d
-  defined es top vs (statement.Declaration k) e d h = absurd d
-  defined es top vs (statement.Definition n b) e d h = defined-there es top vs e n _ d.0 d.1 d.2 h
-  defined es top vs (statement.Synonym n w) e d h = defined-there es top vs e n _ d.0 d.1 d.2 h
-  defined es top vs (statement.Requirement t) e d h = absurd d
+  defined es visible_class vs (statement.Chain k) e d h = absurd d
+  defined es visible_class vs (statement.Declaration k) e d h = absurd d
+  defined es visible_class vs (statement.Definition n b) e d h = defined-there es visible_class vs e n _ d.0 d.1 d.2 h
+  defined es visible_class vs (statement.Synonym n w) e d h = defined-there es visible_class vs e n _ d.0 d.1 d.2 h
+  defined es visible_class vs (statement.Requirement t) e d h = absurd d
 
   pub written-grown : (old new : List ClassEntry) (ws : List WrittenElement) (ps : List Placed) → IsMore old new → AreWritten text old ws ps → AreWritten text new ws ps
   written-grown old new [] [] m h = tt
   written-grown old new [] (p ∷ ps) m h = absurd h
   written-grown old new (w ∷ ws) [] m h = absurd h
   written-grown old new (w ∷ ws) (p ∷ ps) m h =
-      (record { element = h.0.element; visible = shows-grown old new w.top p.visible m h.0.visible }, written-grown old new ws ps m h.1)
+      (record { element = h.0.element; visible = shows-grown old new w.visible_class p.visible m h.0.visible }, written-grown old new ws ps m h.1)
 
   pub written-append : (es : List ClassEntry) (ws : List WrittenElement) (ps : List Placed) (vs : List WrittenElement) (qs : List Placed) → AreWritten text es ws ps → AreWritten text es vs qs →
       AreWritten text es (ws ++ vs) (ps ++ qs)
@@ -116,17 +116,17 @@ module _ (text : List ℕ) where
   written-append es (w ∷ ws) [] vs qs h k = absurd h
   written-append es (w ∷ ws) (p ∷ ps) vs qs h k = (h.0, written-append es ws ps vs qs h.1 k)
 
-  module _ (es : List ClassEntry) (top : Option ℕ) (vs : List Statement) (h : Shows text es top vs) where
-    written-links : (ls : List Link) → AreWritten text es (map (λ l. kept_link top l) ls) (map (place vs) (map (λ (l : Link). l.element) ls))
+  module _ (es : List ClassEntry) (visible_class : Option ℕ) (vs : List Statement) (h : Shows text es visible_class vs) where
+    written-links : (ls : List Link) → AreWritten text es (map (λ l. kept_link visible_class l) ls) (map (place vs) (map (λ (l : Link). l.element) ls))
     written-links [] = tt
     written-links (l ∷ ls) = (record { element = refl; visible = h }, written-links ls)
 
     written-names : (d : Declaration) (ns : List Span) →
-        AreWritten text es (map (λ n. kept_name d top n) ns) (map (place vs) (map (λ n. (kept_name d top n).element) ns))
+        AreWritten text es (map (λ n. kept_name d visible_class n) ns) (map (place vs) (map (λ n. (kept_name d visible_class n).element) ns))
     written-names d [] = tt
     written-names d (n ∷ ns) = (record { element = refl; visible = h }, written-names d ns)
 
-    pub written-statement : (st : Statement) → AreWritten text es (kept_elements top st) (map (place vs) (statement_elements st))
+    pub written-statement : (st : Statement) → AreWritten text es (kept_elements visible_class st) (map (place vs) (statement_elements st))
     written-statement (statement.Chain k) = (record { element = refl; visible = h }, written-links k.links)
     written-statement (statement.Declaration d) = written-names d d.names
     written-statement (statement.Definition n b) = tt
@@ -140,27 +140,27 @@ module _ (text : List ℕ) where
     statement = h.statement;
     splits = h.splits;
     there = h.there;
-    shows = shows-grown es new r.top (reverse h.before ++ visible) m h.shows;
-    outer = h.outer;
+    shows = shows-grown es new r.visible_class (reverse h.before ++ visible) m h.shows;
+    parent = h.parent;
   }
 
   nested_bodies-grown : (es new : List ClassEntry) (scope : ℕ) (visible all : List Statement) (rs : List NestedBody) → IsMore es new → Each (IsNestedBody text es scope visible all) rs → Each (IsNestedBody text new scope visible all) rs
   nested_bodies-grown es new scope visible all [] m h = tt
   nested_bodies-grown es new scope visible all (r ∷ rs) m h = (nested_body-grown es new scope visible all r m h.0, nested_bodies-grown es new scope visible all rs m h.1)
 
-  nested_bodies-at : (es : List ClassEntry) (scope : ℕ) (top : Option ℕ) (visible all before after : List Statement) (st : Statement) (bs : List ℕ) →
-      all ≡ before ++ st ∷ after → ((b : ℕ) → Contains bs b → Contains (bodies_in st) b) → Shows text es top (reverse before ++ visible) →
-      Each (IsNestedBody text es scope visible all) (map (nested_body scope top) bs)
-  nested_bodies-at es scope top visible all before after st [] e i h = tt
-  nested_bodies-at es scope top visible all before after st (b ∷ bs) e i h = (
-    record { before = before; after = after; statement = st; splits = e; there = i b (0, omega arith, refl); shows = h; outer = refl },
-    nested_bodies-at es scope top visible all before after st bs e (λ c k. i c (Contains-append_right (b ∷ []) bs c k)) h,
+  nested_bodies-at : (es : List ClassEntry) (scope : ℕ) (visible_class : Option ℕ) (visible all before after : List Statement) (st : Statement) (bs : List ℕ) →
+      all ≡ before ++ st ∷ after → ((b : ℕ) → Contains bs b → Contains (bodies_in st) b) → Shows text es visible_class (reverse before ++ visible) →
+      Each (IsNestedBody text es scope visible all) (map (nested_body scope visible_class) bs)
+  nested_bodies-at es scope visible_class visible all before after st [] e i h = tt
+  nested_bodies-at es scope visible_class visible all before after st (b ∷ bs) e i h = (
+    record { before = before; after = after; statement = st; splits = e; there = i b (0, omega arith, refl); shows = h; parent = refl },
+    nested_bodies-at es scope visible_class visible all before after st bs e (λ c k. i c (Contains-append_right (b ∷ []) bs c k)) h,
   )
 
   -- The elements and the bodies of the first i statements, and what is visible after these.
-  pub record Kept (es : List ClassEntry) (scope : ℕ) (top : Option ℕ) (ws : List WrittenElement) (first nested_bodies : List NestedBody) (visible : List Statement) (i : ℕ) (all : List Statement) : Type 0 where
+  pub record Kept (es : List ClassEntry) (scope : ℕ) (visible_class : Option ℕ) (ws : List WrittenElement) (first nested_bodies : List NestedBody) (visible : List Statement) (i : ℕ) (all : List Statement) : Type 0 where
     pub seen : List Placed
-    pub shows : Shows text es top (reverse (take i all) ++ visible)
+    pub shows : Shows text es visible_class (reverse (take i all) ++ visible)
     pub written : AreWritten text es ws seen
     pub rest : placed visible all ≡ seen ++ placed (reverse (take i all) ++ visible) (drop i all)
     pub more : List NestedBody
@@ -168,15 +168,15 @@ module _ (text : List ℕ) where
     pub bodies : map (λ (r : NestedBody). r.body) more ++ direct (drop i all) ≡ direct all
     pub each : Each (IsNestedBody text es scope visible all) more
 
-  pub kept-first : (es : List ClassEntry) (scope : ℕ) (top : Option ℕ) (nested_bodies : List NestedBody) (visible all : List Statement) → Shows text es top visible → Kept es scope top [] nested_bodies nested_bodies visible 0 all
-  kept-first es scope top nested_bodies visible all h = record { seen = []; shows = h; written = tt; rest = refl; more = []; is = sym (append-nil nested_bodies); bodies = refl; each = tt }
+  pub kept-first : (es : List ClassEntry) (scope : ℕ) (visible_class : Option ℕ) (nested_bodies : List NestedBody) (visible all : List Statement) → Shows text es visible_class visible → Kept es scope visible_class [] nested_bodies nested_bodies visible 0 all
+  kept-first es scope visible_class nested_bodies visible all h = record { seen = []; shows = h; written = tt; rest = refl; more = []; is = sym (append-nil nested_bodies); bodies = refl; each = tt }
 
-  pub kept-next : (es new : List ClassEntry) (scope : ℕ) (top behind : Option ℕ) (ws vs : List WrittenElement) (first nested_bodies more : List NestedBody) (visible all : List Statement) (i : ℕ) (d st : Statement) →
+  pub kept-next : (es new : List ClassEntry) (scope : ℕ) (visible_class behind : Option ℕ) (ws vs : List WrittenElement) (first nested_bodies more : List NestedBody) (visible all : List Statement) (i : ℕ) (d st : Statement) →
       i < length all → st ≡ get_or all i d → IsMore es new →
-      vs ≡ ws ++ kept_elements top st → more ≡ nested_bodies ++ map (nested_body scope top) (bodies_in st) →
-      ((ss : List Statement) → Shows text es top ss → Shows text new behind (st ∷ ss)) →
-      Kept es scope top ws first nested_bodies visible i all → Kept new scope behind vs first more visible (i + 1) all
-  kept-next es new scope top behind ws vs first nested_bodies more visible all i d st l is m w q f k =
+      vs ≡ ws ++ kept_elements visible_class st → more ≡ nested_bodies ++ map (nested_body scope visible_class) (bodies_in st) →
+      ((ss : List Statement) → Shows text es visible_class ss → Shows text new behind (st ∷ ss)) →
+      Kept es scope visible_class ws first nested_bodies visible i all → Kept new scope behind vs first more visible (i + 1) all
+  kept-next es new scope visible_class behind ws vs first nested_bodies more visible all i d st l is m w q f k =
       let s = reverse (take i all) ++ visible in
       let bs = bodies_in st in
       let next : reverse (take (i + 1) all) ++ visible ≡ st ∷ s =
@@ -188,33 +188,33 @@ module _ (text : List ℕ) where
         seen = k.seen ++ map (place s) (statement_elements st);
         shows = subst (Shows text new behind) (sym next) (f s k.shows);
         written = subst (λ x. AreWritten text new x (k.seen ++ map (place s) (statement_elements st))) (sym w)
-            (written-append new ws k.seen (kept_elements top st) (map (place s) (statement_elements st))
-            (written-grown es new ws k.seen m k.written) (written-statement new top s (shows-grown es new top s m k.shows) st));
+            (written-append new ws k.seen (kept_elements visible_class st) (map (place s) (statement_elements st))
+            (written-grown es new ws k.seen m k.written) (written-statement new visible_class s (shows-grown es new visible_class s m k.shows) st));
         rest = k.rest
             ∙ ap (λ xs. k.seen ++ xs) (at_drop_more (placed s) all i d l)
             ∙ ap (λ (x : Statement). k.seen ++ placed s (x ∷ drop (i + 1) all)) (sym is)
             ∙ sym (append_assoc k.seen (map (place s) (statement_elements st)) (placed (st ∷ s) (drop (i + 1) all)))
             ∙ ap (λ x. (k.seen ++ map (place s) (statement_elements st)) ++ placed x (drop (i + 1) all)) (sym next);
-        more = k.more ++ map (nested_body scope top) bs;
-        is = q ∙ ap (λ x. x ++ map (nested_body scope top) bs) k.is ∙ append_assoc first k.more (map (nested_body scope top) bs);
+        more = k.more ++ map (nested_body scope visible_class) bs;
+        is = q ∙ ap (λ x. x ++ map (nested_body scope visible_class) bs) k.is ∙ append_assoc first k.more (map (nested_body scope visible_class) bs);
         bodies =
-            ap (λ x. x ++ direct (drop (i + 1) all)) (map-append (λ (r : NestedBody). r.body) k.more (map (nested_body scope top) bs) ∙ ap (λ x. map (λ (r : NestedBody). r.body) k.more ++ x) (nested_bodies-bodies scope top bs))
+            ap (λ x. x ++ direct (drop (i + 1) all)) (map-append (λ (r : NestedBody). r.body) k.more (map (nested_body scope visible_class) bs) ∙ ap (λ x. map (λ (r : NestedBody). r.body) k.more ++ x) (nested_bodies-bodies scope visible_class bs))
             ∙ append_assoc (map (λ (r : NestedBody). r.body) k.more) bs (direct (drop (i + 1) all))
             ∙ ap (λ (x : Statement). map (λ (r : NestedBody). r.body) k.more ++ direct (x ∷ drop (i + 1) all)) is
             ∙ ap (λ x. map (λ (r : NestedBody). r.body) k.more ++ x) (sym (at_drop_more direct all i d l)) ∙ k.bodies;
-        each = each-append (IsNestedBody text new scope visible all) k.more (map (nested_body scope top) bs) (nested_bodies-grown es new scope visible all k.more m k.each)
-            (nested_bodies-at new scope top visible all (take i all) (drop (i + 1) all) st bs split (λ b j. j) (shows-grown es new top s m k.shows));
+        each = each-append (IsNestedBody text new scope visible all) k.more (map (nested_body scope visible_class) bs) (nested_bodies-grown es new scope visible all k.more m k.each)
+            (nested_bodies-at new scope visible_class visible all (take i all) (drop (i + 1) all) st bs split (λ b j. j) (shows-grown es new visible_class s m k.shows));
       }
 
-  pub kept-all : (es : List ClassEntry) (scope : ℕ) (top : Option ℕ) (ws : List WrittenElement) (first nested_bodies : List NestedBody) (visible all : List Statement) (i : ℕ) → length all ≤ i →
-      Kept es scope top ws first nested_bodies visible i all → AreWritten text es ws (placed visible all)
-  kept-all es scope top ws first nested_bodies visible all i l k =
+  pub kept-all : (es : List ClassEntry) (scope : ℕ) (visible_class : Option ℕ) (ws : List WrittenElement) (first nested_bodies : List NestedBody) (visible all : List Statement) (i : ℕ) → length all ≤ i →
+      Kept es scope visible_class ws first nested_bodies visible i all → AreWritten text es ws (placed visible all)
+  kept-all es scope visible_class ws first nested_bodies visible all i l k =
       subst (AreWritten text es ws)
       (sym (k.rest ∙ ap (λ xs. k.seen ++ xs) (at_drop_all (placed (reverse (take i all) ++ visible)) all i l) ∙ append-nil k.seen)) k.written
 
-  pub kept-nested_bodies : (es : List ClassEntry) (scope : ℕ) (top : Option ℕ) (ws : List WrittenElement) (first nested_bodies : List NestedBody) (visible all : List Statement) (i : ℕ) → length all ≤ i →
-      Kept es scope top ws first nested_bodies visible i all → AreNestedBodies text es scope visible all first nested_bodies
-  kept-nested_bodies es scope top ws first nested_bodies visible all i l k = record {
+  pub kept-nested_bodies : (es : List ClassEntry) (scope : ℕ) (visible_class : Option ℕ) (ws : List WrittenElement) (first nested_bodies : List NestedBody) (visible all : List Statement) (i : ℕ) → length all ≤ i →
+      Kept es scope visible_class ws first nested_bodies visible i all → AreNestedBodies text es scope visible all first nested_bodies
+  kept-nested_bodies es scope visible_class ws first nested_bodies visible all i l k = record {
     more = k.more;
     is = k.is;
     bodies = sym (append-nil (map (λ (r : NestedBody). r.body) k.more)) ∙ ap (λ x. map (λ (r : NestedBody). r.body) k.more ++ x) (sym (at_drop_all direct all i l)) ∙ k.bodies;

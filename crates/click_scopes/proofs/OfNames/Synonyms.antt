@@ -18,27 +18,27 @@ use Rattle.click_scopes.specs.declared.classes.ClassEntry.{ClassEntry}
 use Rattle.click_scopes.specs.declared.written_scopes.WrittenElement.{WrittenElement}
 use Rattle.click_scopes.proofs.OfLists.StatementTables.{slice_get-more, slice_get-last}
 
-ports-links : (top : Option ℕ) (ls : List Link) → written_ports (map (λ l. kept_link top l) ls) ≡ map (λ (l : Link). Some (port_number l.from, port_number l.to)) ls
-ports-links top [] = refl
-ports-links top (l ∷ ls) = ap (λ x. Some (port_number l.from, port_number l.to) ∷ x) (ports-links top ls)
+ports-links : (visible_class : Option ℕ) (ls : List Link) → written_ports (map (λ l. kept_link visible_class l) ls) ≡ map (λ (l : Link). Some (port_number l.from, port_number l.to)) ls
+ports-links visible_class [] = refl
+ports-links visible_class (l ∷ ls) = ap (λ x. Some (port_number l.from, port_number l.to) ∷ x) (ports-links visible_class ls)
 
-ports-names : (top : Option ℕ) (d : Declaration) (ns : List Span) → written_ports (map (λ n. kept_name d top n) ns) ≡ map (λ (n : Span). None) ns
-ports-names top d [] = refl
-ports-names top d (n ∷ ns) = ap (λ x. None ∷ x) (ports-names top d ns)
+ports-names : (visible_class : Option ℕ) (d : Declaration) (ns : List Span) → written_ports (map (λ n. kept_name d visible_class n) ns) ≡ map (λ (n : Span). None) ns
+ports-names visible_class d [] = refl
+ports-names visible_class d (n ∷ ns) = ap (λ x. None ∷ x) (ports-names visible_class d ns)
 
-ports-statement : (top : Option ℕ) (st : Statement) → written_ports (kept_elements top st) ≡ ports_of st
-ports-statement top (statement.Chain k) = ap (λ x. None ∷ x) (ports-links top k.links)
-ports-statement top (statement.Declaration d) = ports-names top d d.names
-ports-statement top (statement.Definition n b) = refl
-ports-statement top (statement.Synonym n d) = refl
-ports-statement top (statement.Requirement t) = refl
+ports-statement : (visible_class : Option ℕ) (st : Statement) → written_ports (kept_elements visible_class st) ≡ ports_of st
+ports-statement visible_class (statement.Chain k) = ap (λ x. None ∷ x) (ports-links visible_class k.links)
+ports-statement visible_class (statement.Declaration d) = ports-names visible_class d d.names
+ports-statement visible_class (statement.Definition n b) = refl
+ports-statement visible_class (statement.Synonym n d) = refl
+ports-statement visible_class (statement.Requirement t) = refl
 
-pub ports-next : (ws vs : List WrittenElement) (top : Option ℕ) (all : List Statement) (i : ℕ) (d st : Statement) → i < length all → st ≡ get_or all i d → vs ≡ ws ++ kept_elements top st →
+pub ports-next : (ws vs : List WrittenElement) (visible_class : Option ℕ) (all : List Statement) (i : ℕ) (d st : Statement) → i < length all → st ≡ get_or all i d → vs ≡ ws ++ kept_elements visible_class st →
     written_ports ws ++ ports_in (drop i all) ≡ ports_in all → written_ports vs ++ ports_in (drop (i + 1) all) ≡ ports_in all
-ports-next ws vs top all i d st l is w h =
+ports-next ws vs visible_class all i d st l is w h =
     let rest = ports_in (drop (i + 1) all) in
     ap (λ x. written_ports x ++ rest) w
-    ∙ ap (λ x. x ++ rest) (map-append (λ (x : WrittenElement). x.ports) ws (kept_elements top st) ∙ ap (λ x. written_ports ws ++ x) (ports-statement top st))
+    ∙ ap (λ x. x ++ rest) (map-append (λ (x : WrittenElement). x.ports) ws (kept_elements visible_class st) ∙ ap (λ x. written_ports ws ++ x) (ports-statement visible_class st))
     ∙ append_assoc (written_ports ws) (ports_of st) rest
     ∙ ap (λ (x : Statement). written_ports ws ++ (ports_of x ++ rest)) is
     ∙ ap (λ x. written_ports ws ++ x) (sym (at_drop_more ports_in all i d l))
@@ -78,9 +78,9 @@ synonym-grown text es new w m g h = record {
   class = h.class;
 }
 
-module _ (text : List ℕ) (vs : List Statement) (top : Option ℕ) where
+module _ (text : List ℕ) (vs : List Statement) (visible_class : Option ℕ) where
   -- a definition with an original word is a synonym
-  entry-synonym : (st : Statement) (e : ClassEntry) (w : Span) → IsEntry text vs top st (Some e) → e.original ≡ Some w →
+  entry-synonym : (st : Statement) (e : ClassEntry) (w : Span) → IsEntry text vs visible_class st (Some e) → e.original ≡ Some w →
       (n : Span) × (st ≡ statement.Synonym n w) × (meaning_by e.class ≡ meaning text vs (bytes_at text w))
   entry-synonym (statement.Chain k) e w d o = absurd d
   entry-synonym (statement.Declaration k) e w d o = absurd d
@@ -90,7 +90,7 @@ module _ (text : List ℕ) (vs : List Statement) (top : Option ℕ) where
       (n, ap (λ x. statement.Synonym n x) same, d.1 ∙ ap (λ x. meaning text vs (bytes_at text x)) same)
   entry-synonym (statement.Requirement t) e w d o = absurd d
 
-  synonym-entry : (n w : Span) (o : Option ClassEntry) → IsEntry text vs top (statement.Synonym n w) o →
+  synonym-entry : (n w : Span) (o : Option ClassEntry) → IsEntry text vs visible_class (statement.Synonym n w) o →
       (e : ClassEntry) × (o ≡ Some e) × (e.original ≡ Some w) × (meaning_by e.class ≡ meaning text vs (bytes_at text w))
   synonym-entry n w None d = absurd d
   synonym-entry n w (Some e) d = (e, refl, d.3, d.1)
@@ -106,10 +106,10 @@ module _ (text : List ℕ) (visible : List Statement) where
   pub renamed-first : (es : List ClassEntry) (all : List Statement) → Renamed text visible es es 0 all
   renamed-first es all = record { sound = λ j e w t o. inl t; complete = λ before after n w s l. absurd (omega (arith, l)) }
 
-  synonym-last : (es new : List ClassEntry) (top : Option ℕ) (seen : List Statement) (n w : Span) → IsDefined text (reverse seen ++ visible) top (statement.Synonym n w) es new →
+  synonym-last : (es new : List ClassEntry) (visible_class : Option ℕ) (seen : List Statement) (n w : Span) → IsDefined text (reverse seen ++ visible) visible_class (statement.Synonym n w) es new →
       HasSynonym text new w (meaning text (reverse seen ++ visible) (bytes_at text w))
-  synonym-last es new top seen n w d =
-      let r = synonym-entry text (reverse seen ++ visible) top n w d.entry d.is in
+  synonym-last es new visible_class seen n w d =
+      let r = synonym-entry text (reverse seen ++ visible) visible_class n w d.entry d.is in
       record {
         place = length es;
         entry = r.0;
@@ -118,10 +118,10 @@ module _ (text : List ℕ) (visible : List Statement) where
         class = r.3;
       }
 
-  pub renamed-next : (old es new : List ClassEntry) (top : Option ℕ) (all : List Statement) (i : ℕ) (d st : Statement) → i < length all → st ≡ get_or all i d →
-      Shows text es top (reverse (take i all) ++ visible) → ((ss : List Statement) → Shows text es top ss → IsDefined text ss top st es new) →
+  pub renamed-next : (old es new : List ClassEntry) (visible_class : Option ℕ) (all : List Statement) (i : ℕ) (d st : Statement) → i < length all → st ≡ get_or all i d →
+      Shows text es visible_class (reverse (take i all) ++ visible) → ((ss : List Statement) → Shows text es visible_class ss → IsDefined text ss visible_class st es new) →
       Renamed text visible old es i all → Renamed text visible old new (i + 1) all
-  renamed-next old es new top all i d st l is s f k =
+  renamed-next old es new visible_class all i d st l is s f k =
       let seen = take i all in
       let g = f (reverse seen ++ visible) s in
       let split : all ≡ seen ++ st ∷ drop (i + 1) all =
@@ -131,7 +131,7 @@ module _ (text : List ℕ) (visible : List Statement) where
         sound = λ j e w t o. elim (added-cases es g.entry j e (ap (λ x. slice_get x j) (sym g.added) ∙ t)) [
           | inl p ↦ k.sound j e w p o
           | inr p ↦
-              (let r = entry-synonym text (reverse seen ++ visible) top st e w (subst (IsEntry text (reverse seen ++ visible) top st) p g.is) o in
+              (let r = entry-synonym text (reverse seen ++ visible) visible_class st e w (subst (IsEntry text (reverse seen ++ visible) visible_class st) p g.is) o in
               inr (record {
                 before = seen;
                 after = drop (i + 1) all;
@@ -144,7 +144,7 @@ module _ (text : List ℕ) (visible : List Statement) where
           | inl q ↦
               (let r = split-same before seen after (drop (i + 1) all) (statement.Synonym n w) st (sym e ∙ split) (q ∙ sym count) in
               subst (λ x. HasSynonym text new w (meaning text (reverse x ++ visible) (bytes_at text w))) (sym r.0)
-              (synonym-last es new top seen n w (subst (λ x. IsDefined text (reverse seen ++ visible) top x es new) (sym r.1) g)))
+              (synonym-last es new visible_class seen n w (subst (λ x. IsDefined text (reverse seen ++ visible) visible_class x es new) (sym r.1) g)))
           | inr (inl q) ↦ synonym-grown text es new w _ (cons_option g.entry [], g.added) (k.complete before after n w e q)
           | inr (inr q) ↦ absurd (omega (arith, m, q))
         ];

@@ -22,18 +22,18 @@ entry_part (Some x) = Some x.1
 some_same : {X : Type 0} {x y : X} → Some x ≡ Some y → x ≡ y
 some_same h = cc h
 
-pub found-entry : (entries : List ClassEntry) (at : Option ℕ) (limit : ℕ) (i : ℕ) (e : ClassEntry) → Some (i, e) ≡ entry_from entries at limit →
-    (i < limit) × (at ≡ Some i) × (slice_get entries i ≡ Some e)
-found-entry entries None limit i e h = absurd (cc h)
-found-entry entries (Some j) limit i e h = by_test (nat_lt j limit) refl (slice_get entries j) refl h
+pub found-entry : (class_table : List ClassEntry) (at : Option ℕ) (limit : ℕ) (i : ℕ) (e : ClassEntry) → Some (i, e) ≡ entry_from class_table at limit →
+    (i < limit) × (at ≡ Some i) × (slice_get class_table i ≡ Some e)
+found-entry class_table None limit i e h = absurd (cc h)
+found-entry class_table (Some j) limit i e h = by_test (nat_lt j limit) refl (slice_get class_table j) refl h
   where
-    by_test : (t : Bool) → nat_lt j limit ≡ t → (o : Option ClassEntry) → slice_get entries j ≡ o → Some (i, e) ≡ cond t (entry_found j o) None →
-        (i < limit) × (Some j ≡ Some i) × (slice_get entries i ≡ Some e)
+    by_test : (t : Bool) → nat_lt j limit ≡ t → (o : Option ClassEntry) → slice_get class_table j ≡ o → Some (i, e) ≡ cond t (entry_found j o) None →
+        (i < limit) × (Some j ≡ Some i) × (slice_get class_table i ≡ Some e)
     by_test true t None q h = absurd (cc h)
     by_test true t (Some d) q h =
         let same : j ≡ i = ap (λ (x : Option (ℕ × ClassEntry)). place_of x j) (sym h) in
         let lt : j < limit = ltb-true j limit t in
-        (subst (λ k. k < limit) same lt, ap Some same, ap (slice_get entries) (sym same) ∙ q ∙ ap (λ (x : Option (ℕ × ClassEntry)). entry_part x) (sym h))
+        (subst (λ k. k < limit) same lt, ap Some same, ap (slice_get class_table) (sym same) ∙ q ∙ ap (λ (x : Option (ℕ × ClassEntry)). entry_part x) (sym h))
     by_test false t o q h = absurd (cc h)
 
 module _ (text : List ℕ) where
@@ -63,9 +63,9 @@ module _ (text : List ℕ) where
   unfolding meaning
   meaning-synonym n d older w = refl
 
-  module _ (entries : List ClassEntry) where
+  module _ (class_table : List ClassEntry) where
     -- if no definition is visible, a word means what it means before the text
-    pub found-nothing : (vs : List Statement) (w : List ℕ) → Shows text entries None vs → meaning text vs w ≡ primitive_of w
+    pub found-nothing : (vs : List Statement) (w : List ℕ) → Shows text class_table None vs → meaning text vs w ≡ primitive_of w
     found-nothing [] w h = meaning-nil w
     found-nothing (statement.Chain k ∷ vs) w h = meaning-chain k vs w ∙ found-nothing vs w h
     found-nothing (statement.Declaration d ∷ vs) w h = meaning-declaration d vs w ∙ found-nothing vs w h
@@ -76,20 +76,20 @@ module _ (text : List ℕ) where
     -- the definition at index i, and what is visible before it
     pub record Found (i : ℕ) (vs : List Statement) (w : List ℕ) : Type 0 where
       pub entry : ClassEntry
-      pub there : slice_get entries i ≡ Some entry
+      pub there : slice_get class_table i ≡ Some entry
       pub before : List Statement
-      pub shows : Shows text entries entry.older before
+      pub shows : Shows text class_table entry.older before
       pub below : IsBelow entry.older i
       pub means : meaning text vs w ≡ cond (bytes_eq (bytes_at text entry.name) w) (meaning_by entry.class) (meaning text before w)
 
     found-shown : (i : ℕ) (n : _) (m : Option Meaning) (vs older : List Statement) (w : List ℕ) →
-        IsShown text entries (Some i) n m (λ t. Shows text entries t older) →
+        IsShown text class_table (Some i) n m (λ t. Shows text class_table t older) →
         meaning text vs w ≡ cond (bytes_eq (bytes_at text n) w) m (meaning text older w) → Found i vs w
     found-shown i n m vs older w h e =
         let at : h.place ≡ i = cc h.is in
         record {
           entry = h.entry;
-          there = ap (slice_get entries) (sym at) ∙ h.there;
+          there = ap (slice_get class_table) (sym at) ∙ h.there;
           before = older;
           shows = h.older;
           below = subst (IsBelow h.entry.older) at h.below;
@@ -102,7 +102,7 @@ module _ (text : List ℕ) where
     same-found i vs older w e f =
         record { entry = f.entry; there = f.there; before = f.before; shows = f.shows; below = f.below; means = e ∙ f.means }
 
-    pub found : (i : ℕ) (vs : List Statement) (w : List ℕ) → Shows text entries (Some i) vs → Found i vs w
+    pub found : (i : ℕ) (vs : List Statement) (w : List ℕ) → Shows text class_table (Some i) vs → Found i vs w
     found i [] w h = absurd (cc h)
     found i (statement.Chain k ∷ vs) w h = same-found i _ vs w (meaning-chain k vs w) (found i vs w h)
     found i (statement.Declaration d ∷ vs) w h = same-found i _ vs w (meaning-declaration d vs w) (found i vs w h)
@@ -111,29 +111,29 @@ module _ (text : List ℕ) where
     found i (statement.Requirement t ∷ vs) w h = same-found i _ vs w (meaning-requirement t vs w) (found i vs w h)
 
     -- the index of a visible definition is an index of the list
-    pub shown-below : (top : Option ℕ) (vs : List Statement) → Shows text entries top vs → IsBelow top (length entries)
+    pub shown-below : (visible_class : Option ℕ) (vs : List Statement) → Shows text class_table visible_class vs → IsBelow visible_class (length class_table)
     shown-below None vs h = tt
-    shown-below (Some i) vs h = let f = found i vs [] h in slice_get_within entries i f.entry f.there
+    shown-below (Some i) vs h = let f = found i vs [] h in slice_get_within class_table i f.entry f.there
 
     -- one definition further back
-    pub found-older : (at : Option ℕ) (limit : ℕ) (i : ℕ) (e : ClassEntry) (vs : List Statement) (w : List ℕ) → Some (i, e) ≡ entry_from entries at limit →
-        Shows text entries at vs →
-        (before : List Statement) × Shows text entries e.older before × IsBelow e.older i
+    pub found-older : (at : Option ℕ) (limit : ℕ) (i : ℕ) (e : ClassEntry) (vs : List Statement) (w : List ℕ) → Some (i, e) ≡ entry_from class_table at limit →
+        Shows text class_table at vs →
+        (before : List Statement) × Shows text class_table e.older before × IsBelow e.older i
         × (meaning text vs w ≡ cond (bytes_eq (bytes_at text e.name) w) (meaning_by e.class) (meaning text before w))
     found-older at limit i e vs w h s =
-        let r = found-entry entries at limit i e h in
-        let f = found i vs w (subst (λ t. Shows text entries t vs) r.1 s) in
+        let r = found-entry class_table at limit i e h in
+        let f = found i vs w (subst (λ t. Shows text class_table t vs) r.1 s) in
         let same : f.entry ≡ e = some_same (sym f.there ∙ r.2) in (
           f.before,
-          subst (λ (x : ClassEntry). Shows text entries x.older f.before) same f.shows,
+          subst (λ (x : ClassEntry). Shows text class_table x.older f.before) same f.shows,
           subst (λ (x : ClassEntry). IsBelow x.older i) same f.below,
           subst (λ (x : ClassEntry). meaning text vs w ≡ cond (bytes_eq (bytes_at text x.name) w) (meaning_by x.class) (meaning text f.before w)) same f.means,
         )
 
-    pub found-end : (at : Option ℕ) (limit : ℕ) (vs : List Statement) (w : List ℕ) → Shows text entries at vs → IsBelow at limit →
-        entry_from entries at limit ≡ None → meaning text vs w ≡ primitive_of w
+    pub found-end : (at : Option ℕ) (limit : ℕ) (vs : List Statement) (w : List ℕ) → Shows text class_table at vs → IsBelow at limit →
+        entry_from class_table at limit ≡ None → meaning text vs w ≡ primitive_of w
     found-end None limit vs w s b h = found-nothing vs w s
     found-end (Some i) limit vs w s b h =
         let f = found i vs w s in
         let t : nat_lt i limit ≡ true = lt-ltb i limit b in
-        absurd (cc (sym h ∙ ap (λ x. cond x (entry_found i (slice_get entries i)) None) t ∙ ap (entry_found i) f.there))
+        absurd (cc (sym h ∙ ap (λ x. cond x (entry_found i (slice_get class_table i)) None) t ∙ ap (entry_found i) f.there))

@@ -15,12 +15,12 @@ use Rattle.click_scopes.specs.declared.written_scopes.WrittenScope.{WrittenScope
 use Rattle.click_scopes.specs.declared.scopes.Scope.{Scope as ScopeKept}
 
 -- k is the stored form of the written scope w
-pub record IsScopeOf (c : Config) (entries : List ClassEntry) (in_body : Bool) (w : WrittenScope) (k : ScopeKept) : Type 0 where
-  pub elements : AreScopeElementsOf c.text entries in_body w.written.items k.elements.items
+pub record IsScopeOf (c : Config) (class_table : List ClassEntry) (in_body : Bool) (w : WrittenScope) (k : ScopeKept) : Type 0 where
+  pub elements : AreScopeElementsOf c.text class_table in_body w.written.items k.elements.items
   pub strings : AreStringsOf c.text in_body w.written.items k.elements.items
   pub arguments : All (HasArguments c.text) k.elements.items
   pub connections : AreWrittenConnectionsOf c in_body w.written.items k.connections
-  pub parent : k.parent ≡ w.outer
+  pub parent : k.parent ≡ w.parent
 
 -- k is the stored form of a scope: its elements with their strings and arguments, its connections,
 -- and the index of the scope around it.

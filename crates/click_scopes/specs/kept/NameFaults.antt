@@ -34,9 +34,9 @@ original_at (Some s) None = Some (token_fault kind.UnknownClass s)
 original_at (Some s) (Some m) = None
 
 -- One of the definitions with an index below `end` is a synonym of an unknown class.
-pub record IsWrongEntry (entries : List ClassEntry) (end : ℕ) (w : TokenFault) : Type 0 where
+pub record IsWrongEntry (class_table : List ClassEntry) (end : ℕ) (w : TokenFault) : Type 0 where
   pub place : ℕ
   pub entry : ClassEntry
   pub within : place < end
-  pub there : slice_get entries place ≡ Some entry
+  pub there : slice_get class_table place ≡ Some entry
   pub is : original_at entry.original entry.class ≡ Some w

@@ -14,8 +14,8 @@ use Rattle.click_scopes.specs.declared.scope_elements.ScopeElement.{ScopeElement
 
 -- the stored elements of a scope with these written elements
 abbrev pub AreScopeElementsOf : List ℕ → List ClassEntry → Bool → List WrittenElement → List ScopeElementKept → Type 0
-AreScopeElementsOf text entries in_body ws ls =
-    (ps : List Placed) → AreWritten text entries ws ps → map (scope_element_of text) ls ≡ scope_elements_from text in_body (declared_names text ps) 0 ps
+AreScopeElementsOf text class_table in_body ws ls =
+    (ps : List Placed) → AreWritten text class_table ws ps → map (scope_element_of text) ls ≡ scope_elements_from text in_body (declared_names text ps) 0 ps
 
 -- the configuration string of a written element that makes one; the inner None is no string
 abbrev pub string_where_made : Role → Option Span → Option (Option Span)

@@ -38,16 +38,16 @@ abbrev pub ports_in : List Statement → List (Option (ℕ × ℕ))
 ports_in ss = flat_map ports_of ss
 
 -- k is the stored form of a written scope.
-pub record IsWrittenScope (c : Config) (entries : List ClassEntry) (s : Scope) (visible : List Statement) (enclosing : List Scope) (k : WrittenScope) : Type 0 where
-  pub written : AreWritten c.text entries k.written.items (placed visible (statements_of c s))
+pub record IsWrittenScope (c : Config) (class_table : List ClassEntry) (s : Scope) (visible : List Statement) (enclosing : List Scope) (k : WrittenScope) : Type 0 where
+  pub written : AreWritten c.text class_table k.written.items (placed visible (statements_of c s))
   pub ports : map (λ (w : WrittenElement). w.ports) k.written.items ≡ ports_in (statements_of c s)
-  pub outer : k.outer ≡ outer_of c enclosing
+  pub parent : k.parent ≡ outer_of c enclosing
 
 -- each written scope is stored at its index in the table
 abbrev pub AreWrittenScopes : Config → List ClassEntry → List WrittenScope → Type 0
-AreWrittenScopes c entries ks =
+AreWrittenScopes c class_table ks =
     (s : Scope) (visible : List Statement) (enclosing : List Scope) → Stands c s visible enclosing →
-    (k : WrittenScope) × (slice_get ks (table_place c s) ≡ Some k) × IsWrittenScope c entries s visible enclosing k
+    (k : WrittenScope) × (slice_get ks (table_place c s) ≡ Some k) × IsWrittenScope c class_table s visible enclosing k
 
 -- A synonym in a scope, and the meaning of its class.
 pub record IsSynonym (c : Config) (original : Span) (m : Option Meaning) : Type 0 where
@@ -62,9 +62,9 @@ pub record IsSynonym (c : Config) (original : Span) (m : Option Meaning) : Type 
   pub meaning : m ≡ meaning c.text (reverse before ++ visible) (bytes_at c.text original)
 
 -- The synonyms among the definitions are exactly those in the scopes of the configuration.
-pub record AreSynonyms (c : Config) (entries : List ClassEntry) : Type 0 where
-  pub sound : (i : ℕ) (e : ClassEntry) (w : Span) → slice_get entries i ≡ Some e → e.original ≡ Some w → IsSynonym c w (meaning_by e.class)
+pub record AreSynonyms (c : Config) (class_table : List ClassEntry) : Type 0 where
+  pub sound : (i : ℕ) (e : ClassEntry) (w : Span) → slice_get class_table i ≡ Some e → e.original ≡ Some w → IsSynonym c w (meaning_by e.class)
   pub complete : (s : Scope) (visible : List Statement) (enclosing : List Scope) (before after : List Statement) (n w : Span) → Stands c s visible enclosing →
       statements_of c s ≡ before ++ statement.Synonym n w ∷ after →
-      (i : ℕ) × (e : ClassEntry) × (slice_get entries i ≡ Some e) × (e.original ≡ Some w)
+      (i : ℕ) × (e : ClassEntry) × (slice_get class_table i ≡ Some e) × (e.original ≡ Some w)
       × (meaning_by e.class ≡ meaning c.text (reverse before ++ visible) (bytes_at c.text w))

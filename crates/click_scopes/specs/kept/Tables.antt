@@ -28,24 +28,24 @@ IsBelow (Some i) n = i < n
 
 -- At index `place` is a definition with this name and meaning, and what is visible before it is at
 -- its index `older`.
-pub record IsShown (text : List ℕ) (entries : List ClassEntry) (top : Option ℕ) (name : Span) (m : Option Meaning) (before : Option ℕ → Type 0) : Type 0 where
+pub record IsShown (text : List ℕ) (class_table : List ClassEntry) (visible_class : Option ℕ) (name : Span) (m : Option Meaning) (before : Option ℕ → Type 0) : Type 0 where
   pub place : ℕ
   pub entry : ClassEntry
-  pub is : top ≡ Some place
-  pub there : slice_get entries place ≡ Some entry
+  pub is : visible_class ≡ Some place
+  pub there : slice_get class_table place ≡ Some entry
   pub same_name : entry.name ≡ name
   pub class : meaning_by entry.class ≡ m
   pub below : IsBelow entry.older place
   pub older : before entry.older
 
--- from index `top` back, the list has the definitions of these statements, of which the last comes
+-- from index `visible_class` back, the list has the definitions of these statements, of which the last comes
 -- first
 abbrev pub Shows : List ℕ → List ClassEntry → Option ℕ → List Statement → Type 0
-Shows text entries top [] = top ≡ None
-Shows text entries top (statement.Definition n b ∷ older) = IsShown text entries top n (Some (compound b)) (λ t. Shows text entries t older)
-Shows text entries top (statement.Synonym n c ∷ older) =
-    IsShown text entries top n (meaning text older (bytes_at text c)) (λ t. Shows text entries t older)
-Shows text entries top (_ ∷ older) = Shows text entries top older
+Shows text class_table visible_class [] = visible_class ≡ None
+Shows text class_table visible_class (statement.Definition n b ∷ older) = IsShown text class_table visible_class n (Some (compound b)) (λ t. Shows text class_table t older)
+Shows text class_table visible_class (statement.Synonym n c ∷ older) =
+    IsShown text class_table visible_class n (meaning text older (bytes_at text c)) (λ t. Shows text class_table t older)
+Shows text class_table visible_class (_ ∷ older) = Shows text class_table visible_class older
 
 -- the definition at an index below a limit, with its index
 abbrev pub entry_found : ℕ → Option ClassEntry → Option (ℕ × ClassEntry)
@@ -53,19 +53,19 @@ entry_found i None = None
 entry_found i (Some e) = Some (i, e)
 
 abbrev pub entry_from : List ClassEntry → Option ℕ → ℕ → Option (ℕ × ClassEntry)
-entry_from entries None limit = None
-entry_from entries (Some i) limit = if nat_lt i limit then entry_found i (slice_get entries i) else None
+entry_from class_table None limit = None
+entry_from class_table (Some i) limit = if nat_lt i limit then entry_found i (slice_get class_table i) else None
 
 -- w is the stored form of the written element p.
-pub record IsWrittenElement (text : List ℕ) (entries : List ClassEntry) (w : WrittenElement) (p : Placed) : Type 0 where
+pub record IsWrittenElement (text : List ℕ) (class_table : List ClassEntry) (w : WrittenElement) (p : Placed) : Type 0 where
   pub element : w.element ≡ p.element
-  pub visible : Shows text entries w.top p.visible
+  pub visible : Shows text class_table w.visible_class p.visible
 
 abbrev pub AreWritten : List ℕ → List ClassEntry → List WrittenElement → List Placed → Type 0
-AreWritten text entries [] [] = Unit {0}
-AreWritten text entries [] (p ∷ ps) = ⊥
-AreWritten text entries (w ∷ ws) [] = ⊥
-AreWritten text entries (w ∷ ws) (p ∷ ps) = IsWrittenElement text entries w p × AreWritten text entries ws ps
+AreWritten text class_table [] [] = Unit {0}
+AreWritten text class_table [] (p ∷ ps) = ⊥
+AreWritten text class_table (w ∷ ws) [] = ⊥
+AreWritten text class_table (w ∷ ws) (p ∷ ps) = IsWrittenElement text class_table w p × AreWritten text class_table ws ps
 
 abbrev pub elements_of : List WrittenElement → List Element
 elements_of ws = map (λ (w : WrittenElement). w.element) ws
@@ -91,14 +91,14 @@ numbers_from text in_body declared n (e ∷ es) = n ∷ numbers_from text in_bod
 
 -- the definition that a statement makes after those that are visible before it
 abbrev pub IsEntry : List ℕ → List Statement → Option ℕ → Statement → Option ClassEntry → Type 0
-IsEntry text visible top (statement.Definition n b) None = ⊥
-IsEntry text visible top (statement.Definition n b) (Some e) =
-    (e.name ≡ n) × (meaning_by e.class ≡ Some (compound b)) × (e.older ≡ top) × (e.original ≡ None)
-IsEntry text visible top (statement.Synonym n d) None = ⊥
-IsEntry text visible top (statement.Synonym n d) (Some e) =
-    (e.name ≡ n) × (meaning_by e.class ≡ meaning text visible (bytes_at text d)) × (e.older ≡ top) × (e.original ≡ Some d)
-IsEntry text visible top _ None = Unit {0}
-IsEntry text visible top _ (Some e) = ⊥
+IsEntry text visible visible_class (statement.Definition n b) None = ⊥
+IsEntry text visible visible_class (statement.Definition n b) (Some e) =
+    (e.name ≡ n) × (meaning_by e.class ≡ Some (compound b)) × (e.older ≡ visible_class) × (e.original ≡ None)
+IsEntry text visible visible_class (statement.Synonym n d) None = ⊥
+IsEntry text visible visible_class (statement.Synonym n d) (Some e) =
+    (e.name ≡ n) × (meaning_by e.class ≡ meaning text visible (bytes_at text d)) × (e.older ≡ visible_class) × (e.original ≡ Some d)
+IsEntry text visible visible_class _ None = Unit {0}
+IsEntry text visible visible_class _ (Some e) = ⊥
 
 -- `new` has further definitions after `old`
 abbrev pub IsMore : List ClassEntry → List ClassEntry → Type 0

@@ -1,5 +1,5 @@
 use Rattle.std.proofs.Common.{length, ◌+◌, ◌≤◌, ℕ}
-use Rattle.click_control.specs.Peers.{Input, Output}
+use Rattle.click_streams.specs.Peers.{Input, Output}
 use Rattle.click_control.specs.kept.Going.{SoFar}
 use Rattle.click_control.proofs.serving.answer_commands.Given as goal
 

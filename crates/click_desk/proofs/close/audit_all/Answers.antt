@@ -5,7 +5,7 @@ use mathlib.Core.Option.{some}
 use borrow.Author.Count.{below_more}
 use Rattle.crossbeam_queue.specs.Passes.{view}
 use Rattle.crossbeam_queue.proofs.Lists.{at_index, set_again}
-use Rattle.click_desk.specs.declared.view.View.{View}
+use Rattle.click_desk.specs.declared.pass_knowledge.PassKnowledge.{PassKnowledge}
 use Rattle.click_desk.specs.Views.{holding}
 use Rattle.click_desk.specs.SeatStates.{SeatState}
 use Rattle.click_desk.specs.Closing.{IsEntered}
@@ -25,8 +25,8 @@ loop-i-preserved g c =
     record {
       same = ap (λ y. slice_set c.loop-i.seats c.loop-i.i y) (c.audit-agent.ensures.same ∙ sym read) ∙ (set_again c.loop-i.seats c.loop-i.i x at ∙ inv.same);
       agent = c.audit-agent.ensures.agent.0;
-      known = ap (λ (v : View). v.seen) c.audit-agent.ensures.agent.1 ∙ inv.known;
-      holds = c.audit-agent.ensures.agent.1 ∙ sym (ap (λ (v : View). holding v.options v.seen) c.audit-agent.ensures.agent.1);
+      known = ap (λ (v : PassKnowledge). v.seen) c.audit-agent.ensures.agent.1 ∙ inv.known;
+      holds = c.audit-agent.ensures.agent.1 ∙ sym (ap (λ (v : PassKnowledge). holding v.options v.seen) c.audit-agent.ensures.agent.1);
       entered = below_more (λ k. (d : SeatState) → IsEntered (view c.args.agent).seen (slice_index_or c.args.seats.now k d)) c.loop-i.i inv.entered (λ d. subst (λ (s : SeatState). IsEntered (view c.args.agent).seen s) (sym (there d)) here);
     }
 

@@ -6,7 +6,7 @@ use mathlib.Core.Option.{some}
 use Rattle.crossbeam_queue.specs.Passes.{view}
 use Rattle.crossbeam_queue.proofs.Lists.{at_index, set_again}
 use Rattle.click_desk.specs.declared.entry.Entry.{Entry}
-use Rattle.click_desk.specs.declared.view.View.{View}
+use Rattle.click_desk.specs.declared.pass_knowledge.PassKnowledge.{PassKnowledge}
 use Rattle.click_desk.specs.SeatStates.{SeatState}
 use Rattle.click_desk.specs.DeskSetups.{terms_of}
 use Rattle.click_desk.specs.declared.desk_setup.DeskSetup.{DeskSetup}
@@ -21,7 +21,7 @@ returns-clause-entered g c =
     let read : x ≡ slice_index_or seats 0 x = c.index-seats-0.is in
     let at : get_elem? seats 0 ≡ some x = at_index seats 0 x c.requires.some read in
     let same : slice_set seats 0 c.agent-agent.new.seat ≡ seats = ap (λ y. slice_set seats 0 y) (c.agent-agent.ensures.same ∙ sym read) ∙ set_again seats 0 x at in
-    let seen : (view c.take-logged_router.new.pass).seen ≡ c.take-logged_router.result.entries = ap (λ (v : View). v.seen) c.take-logged_router.ensures.taken.0 in
+    let seen : (view c.take-logged_router.new.pass).seen ≡ c.take-logged_router.result.entries = ap (λ (v : PassKnowledge). v.seen) c.take-logged_router.ensures.taken.0 in
     let all : All (IsEntered (view c.take-logged_router.new.pass).seen) (slice_set seats 0 c.agent-agent.new.seat) = c.audit_all.ensures.entered in
     subst (λ (y : List Entry × List SeatState). All (IsEntered y.0) y.1) (λ i. (seen i, same i)) all
 
@@ -31,7 +31,7 @@ returns-clause-options g c = λ s.
     let x = c.index-seats-0.result in
     let at : get_elem? seats 0 ≡ some x = at_index seats 0 x c.requires.some c.index-seats-0.is in
     let taken : c.take-logged_router.result.options ≡ (view c.agent-agent.result).options = c.take-logged_router.ensures.taken.1.0 in
-    ap (λ (y : SeatState). y.desk.options) (index_of seats 0 x s at ∙ c.index-seats-0.is) ∙ sym (ap terms_of (taken ∙ ap (λ (v : View). v.options) c.agent-agent.ensures.agent.1))
+    ap (λ (y : SeatState). y.desk.options) (index_of seats 0 x s at ∙ c.index-seats-0.is) ∙ sym (ap terms_of (taken ∙ ap (λ (v : PassKnowledge). v.options) c.agent-agent.ensures.agent.1))
 
 pub returns-clause-feeds : goal.returns-clause-feeds
 returns-clause-feeds g c = λ s.
@@ -39,4 +39,4 @@ returns-clause-feeds g c = λ s.
     let x = c.index-seats-0.result in
     let at : get_elem? seats 0 ≡ some x = at_index seats 0 x c.requires.some c.index-seats-0.is in
     let taken : c.take-logged_router.result.options ≡ (view c.agent-agent.result).options = c.take-logged_router.ensures.taken.1.0 in
-    ap (λ (y : SeatState). y.feeds) (index_of seats 0 x s at ∙ c.index-seats-0.is) ∙ sym (ap (λ (y : DeskSetup). y.feeds) (taken ∙ ap (λ (v : View). v.options) c.agent-agent.ensures.agent.1))
+    ap (λ (y : SeatState). y.feeds) (index_of seats 0 x s at ∙ c.index-seats-0.is) ∙ sym (ap (λ (y : DeskSetup). y.feeds) (taken ∙ ap (λ (v : PassKnowledge). v.options) c.agent-agent.ensures.agent.1))

@@ -7,14 +7,14 @@ use Rattle.click_desk.proofs.logged_router.swap.Goals as goal
 pub returns-else-is_err-clause-swaps : goal.returns-else-is_err-clause-swaps
 returns-else-is_err-clause-swaps g c = rw (c.install.ensures, c.of.ensures) (installed c.in-Ok.prepared c.in-Ok.ensures.opened)
 
-pub returns-in-Ok-faulty : goal.returns-in-Ok-faulty
-returns-in-Ok-faulty g c =
+pub returns-in-Ok-config_refused : goal.returns-in-Ok-config_refused
+returns-in-Ok-config_refused g c =
     let fault = c.in-Err.fault in
     let text = c.args.text.now in
     record {
       board = refl;
-      swaps = rw c.in-Ok-faulty.ensures (refused fault (other_fault (IsFirstFault text fault) fault c.in_default-kind.not-NoMemory c.in-Err.ensures.err));
-      list = rw c.in-Ok-faulty.ensures (sym (append-nil c.args.published.now.list));
+      swaps = rw c.in-Ok-config_refused.ensures (refused fault (other_fault (IsFirstFault text fault) fault c.in_default-kind.not-NoMemory c.in-Err.ensures.err));
+      list = rw c.in-Ok-config_refused.ensures (sym (append-nil c.args.published.now.list));
       light = λ e. refl;
-      quiet = rw c.in-Ok-faulty.ensures refl;
+      quiet = rw c.in-Ok-config_refused.ensures refl;
     }

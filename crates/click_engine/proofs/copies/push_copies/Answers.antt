@@ -9,7 +9,7 @@ loop-copy-preserved c =
     let frame = c.loop-copy.push_frame in
     let same = c.loop-copy.invariant.same in
     let target = (wiring_of c.args.adjacency.now).target in
-    let joined = c.far_in.ensures ∙ ap far_of (c.targets-row.ensures frame.first) ∙ ap (λ at. far_of (target at frame.first)) (sym same) in
+    let joined = c.target_in.ensures ∙ ap far_of (c.targets-row.ensures frame.first) ∙ ap (λ at. far_of (target at frame.first)) (sym same) in
     let over = rw c.copy_from.ensures at (c.push_copy.ensures.along frame.at frame.first joined) in
     record {
       same = same;

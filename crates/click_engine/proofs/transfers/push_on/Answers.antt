@@ -25,7 +25,7 @@ loop-left-preserved c = λ at output lost joined.
     let (near, by, there, along) = c.loop-left.invariant at output lost joined in (
       c.loop-left.far.element,
       c.act_at-outputs.result.first,
-      c.far_from-far.ensures,
+      c.target_of-far.ensures,
       along_one _ _ _ _ _ _ _ _ _ _ _ _ _ _ _ along
           (pushed_on _ _ _ _ _ _ _ _ (run_state_with c.loop-left.elements (c.loop-left.left - 1) lost) c.act_at-outputs.result (omega (arith, c.loop-left-test.true)) there (omega arith) refl (c.act_at-outputs.ensures.acts.acts _ lost) (omega arith))
           (omega (arith, c.if-outputs-ne1.false)),

@@ -8,6 +8,6 @@ ghosts-run_as g a = record {
   number = a.seat.number;
   feeds = a.seat.feeds;
   calls = a.seat.calls;
-  names = names_of a.link_parts.devices.now;
-  tried = g.S.Outbound.tried a.link_parts.sender;
+  names = names_of a.link_set.devices.now;
+  attempts = g.S.Outbound.attempts a.link_set.sender;
 }

@@ -24,6 +24,6 @@ loop-preserved g c =
     record {
       same = (c.send_one.ensures.same.0 ∙ c.loop.invariant.same.0, c.send_one.ensures.same.1 ∙ c.loop.invariant.same.1, c.send_one.ensures.same.2 ∙ c.loop.invariant.same.2);
       sends = subst
-          (λ (n : Tally). SendsSo c.args.device.now.name c.args.seat.now.calls c.send_one.new.seat.calls (g.S.Outbound.tried c.args.sender.now) (g.S.Outbound.tried c.send_one.new.sender) (c.loop.counter + 1) n)
+          (λ (n : Tally). SendsSo c.args.device.now.name c.args.seat.now.calls c.send_one.new.seat.calls (g.S.Outbound.attempts c.args.sender.now) (g.S.Outbound.attempts c.send_one.new.sender) (c.loop.counter + 1) n)
           (sym c.add.ensures) (so_more _ _ _ _ _ _ _ _ _ h.0 _ c.loop.invariant.sends h.1);
     }

@@ -7,9 +7,9 @@ use Rattle.click_router.specs.kept.Refused.{IsConfigFault}
 use Rattle.click_router.proofs.OfOpenings.OneOpening.{given, first_fault}
 use Rattle.click_router.proofs.opening.prepare.Goals as goal
 
-pub returns-then-text-gt-LONGEST_TEXT-clause-err : goal.returns-then-text-gt-LONGEST_TEXT-clause-err
-returns-then-text-gt-LONGEST_TEXT-clause-err c =
-    rw c.fault_nowhere.ensures (inr (unreadable c.args.text.now too_large (inl (c.if-text-gt-LONGEST_TEXT.true, refl))))
+pub returns-then-text-gt-MAX_TEXT_BYTES-clause-err : goal.returns-then-text-gt-MAX_TEXT_BYTES-clause-err
+returns-then-text-gt-MAX_TEXT_BYTES-clause-err c =
+    rw c.fault_nowhere.ensures (inr (unreadable c.args.text.now too_large (inl (c.if-text-gt-MAX_TEXT_BYTES.true, refl))))
 
 pub returns-in-Ok-clause-only : goal.returns-in-Ok-clause-only
 returns-in-Ok-clause-only c = λ s o.

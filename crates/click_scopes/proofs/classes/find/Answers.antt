@@ -7,24 +7,24 @@ use Rattle.click_scopes.proofs.OfNames.WordMeanings.{shown-below, found-older, f
 use Rattle.click_scopes.proofs.classes.find.Goals as goal
 
 pub loop-place-init : goal.loop-place-init
-loop-place-init c = λ visible h. (visible, h, shown-below c.args.text.now c.args.entries.now c.args.top visible h, refl)
+loop-place-init c = λ visible h. (visible, h, shown-below c.args.text.now c.args.class_table.now c.args.visible_class visible h, refl)
 
 pub loop-place-preserved : goal.loop-place-preserved
 loop-place-preserved c = λ visible h.
     let text = c.args.text.now in let w = bytes_at text c.args.word in let e = c.in-Some.entry in
     let v = c.loop-place.invariant visible h in
-    let f = found-older text c.args.entries.now c.loop-place.at c.loop-place.limit c.in-Some.place e v.0 w c.in-Some.ensures v.1 in
+    let f = found-older text c.args.class_table.now c.loop-place.at c.loop-place.limit c.in-Some.place e v.0 w c.in-Some.ensures v.1 in
     let no : bytes_eq (bytes_at text e.name) w ≡ false = sym (ap (λ x. bytes_eq x c.of-in-Some.result.now) c.of.ensures ∙ ap (λ x. bytes_eq (bytes_at text e.name) x) c.of-in-Some.ensures) ∙ sym c.eq.ensures ∙ c.if-eq.false in
     (f.0, f.1, f.2, v.3 ∙ f.3 ∙ ap (λ b. cond b (meaning_by e.class) (meaning text f.0 w)) no)
 
 pub loop-place-smaller : goal.loop-place-smaller
-loop-place-smaller c = (found-entry c.args.entries.now c.loop-place.at c.loop-place.limit c.in-Some.place c.in-Some.entry c.in-Some.ensures).0
+loop-place-smaller c = (found-entry c.args.class_table.now c.loop-place.at c.loop-place.limit c.in-Some.place c.in-Some.entry c.in-Some.ensures).0
 
 pub returns-then-eq : goal.returns-then-eq
 returns-then-eq c = λ visible h.
     let text = c.args.text.now in let w = bytes_at text c.args.word in let e = c.in-Some.entry in
     let v = c.loop-place.invariant visible h in
-    let f = found-older text c.args.entries.now c.loop-place.at c.loop-place.limit c.in-Some.place e v.0 w c.in-Some.ensures v.1 in
+    let f = found-older text c.args.class_table.now c.loop-place.at c.loop-place.limit c.in-Some.place e v.0 w c.in-Some.ensures v.1 in
     let yes : bytes_eq (bytes_at text e.name) w ≡ true = sym (ap (λ x. bytes_eq x c.of-in-Some.result.now) c.of.ensures ∙ ap (λ x. bytes_eq (bytes_at text e.name) x) c.of-in-Some.ensures) ∙ sym c.eq.ensures ∙ c.if-eq.true in
     sym (v.3 ∙ f.3 ∙ ap (λ b. cond b (meaning_by e.class) (meaning text f.0 w)) yes)
 
@@ -32,4 +32,4 @@ pub returns : goal.returns
 returns c = λ visible h.
     let text = c.args.text.now in let w = bytes_at text c.args.word in
     let v = c.loop-place.invariant visible h in
-    c.primitive.ensures ∙ ap primitive_of c.of-2.ensures ∙ sym (v.3 ∙ found-end text c.args.entries.now c.loop-place.at c.loop-place.limit v.0 w v.1 v.2 (sym c.entry_at.ensures ∙ c.in_default.is))
+    c.primitive.ensures ∙ ap primitive_of c.of-2.ensures ∙ sym (v.3 ∙ found-end text c.args.class_table.now c.loop-place.at c.loop-place.limit v.0 w v.1 v.2 (sym c.entry_at.ensures ∙ c.in_default.is))

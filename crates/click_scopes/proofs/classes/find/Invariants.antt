@@ -7,8 +7,8 @@ use Rattle.click_scopes.proofs.classes.find.Given as goal
 
 abbrev pub invariant-loop-place : goal.invariant-loop-place
 invariant-loop-place l =
-    (visible : List Statement) → Shows l.text l.entries l.fn.top visible →
-    (before : List Statement) × Shows l.text l.entries l.at before × IsBelow l.at l.limit
+    (visible : List Statement) → Shows l.text l.class_table l.fn.visible_class visible →
+    (before : List Statement) × Shows l.text l.class_table l.at before × IsBelow l.at l.limit
     × (meaning l.text visible (bytes_at l.text l.word) ≡ meaning l.text before (bytes_at l.text l.word))
 
 abbrev pub decreases-loop-place : goal.decreases-loop-place

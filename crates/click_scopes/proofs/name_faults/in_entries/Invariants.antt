@@ -3,4 +3,4 @@ use Rattle.click_scopes.specs.kept.FirstFault.{IsLeast}
 use Rattle.click_scopes.proofs.name_faults.in_entries.Given as goal
 
 abbrev pub invariant-loop-entry : goal.invariant-loop-entry
-invariant-loop-entry l = IsLeast (IsWrongEntry l.entries l.entry-index) l.first
+invariant-loop-entry l = IsLeast (IsWrongEntry l.class_table l.entry-index) l.first

@@ -19,7 +19,7 @@ loop-one-preserved c =
           record {
             scope_elements = λ ps h.
                 v.scope_elements ps h
-                ∙ made-more text b D c.args.entries.now ws ps h ls l w.len.result i _ _ c.loop-one-test.true refl k m w.in_ok-scope_element.ensures.scope_element
+                ∙ made-more text b D c.args.class_table.now ws ps h ls l w.len.result i _ _ c.loop-one-test.true refl k m w.in_ok-scope_element.ensures.scope_element
                 ∙ ap (λ x. with_left text b D x (drop (i + 1) ps)) (sym is);
             strings = v.strings
                 ∙ strings-makes text b D ls l ws i _ _ c.loop-one-test.true refl m w.in_ok-scope_element.ensures.string
@@ -32,7 +32,7 @@ loop-one-preserved c =
           record {
             scope_elements = λ ps h.
                 v.scope_elements ps h
-                ∙ made-other text b D c.args.entries.now ws ps h ls i _ _ (role_kept c.role_of.result) c.loop-one-test.true refl (sym c.role_of.ensures) k
+                ∙ made-other text b D c.args.class_table.now ws ps h ls i _ _ (role_kept c.role_of.result) c.loop-one-test.true refl (sym c.role_of.ensures) k
                 ∙ ap (λ x. with_left text b D x (drop (i + 1) ps)) (sym same);
             strings = v.strings
                 ∙ strings-other text b D ls ws i _ _ (role_kept c.role_of.result) c.loop-one-test.true refl (sym c.role_of.ensures) k
@@ -53,7 +53,7 @@ loop-one-init c =
 pub returns : goal.returns
 returns c = record {
   scope_elements = λ ps h.
-      sym (c.loop-one.invariant.scope_elements ps h ∙ made-all c.args.text.now c.args.in_body c.args.declared.now c.args.entries.now c.args.written.now ps h c.loop-one.scope_elements.items c.loop-one.one-index c.loop-one-test.false);
+      sym (c.loop-one.invariant.scope_elements ps h ∙ made-all c.args.text.now c.args.in_body c.args.declared.now c.args.class_table.now c.args.written.now ps h c.loop-one.scope_elements.items c.loop-one.one-index c.loop-one-test.false);
   strings = sym (c.loop-one.invariant.strings ∙ strings-all c.args.text.now c.args.in_body c.args.declared.now c.loop-one.scope_elements.items c.args.written.now c.loop-one.one-index c.loop-one-test.false);
   arguments = c.loop-one.invariant.arguments;
 }

@@ -8,7 +8,7 @@ use Rattle.click_scopes.proofs.scope_elements.scope_elements_of.Given as goal
 
 abbrev pub invariant-loop-one : goal.invariant-loop-one
 invariant-loop-one l = record {
-  scope_elements : (ps : List Placed) → AreWritten l.text l.entries l.written ps →
+  scope_elements : (ps : List Placed) → AreWritten l.text l.class_table l.written ps →
       scope_elements_from l.text l.in_body l.declared 0 ps ≡ with_left l.text l.in_body l.declared l.scope_elements.items (drop l.one-index ps);
   strings : strings_made l.text l.in_body l.declared (elements_of l.written) ≡ strings_left l.text l.in_body l.declared l.scope_elements.items (drop l.one-index l.written);
   arguments : All (HasArguments l.text) l.scope_elements.items;

@@ -9,7 +9,7 @@ use Rattle.click_scopes.proofs.scopes.scope_of.Goals as goal
 
 pub returns : goal.returns
 returns c =
-    let config = c.args.config.now in let es = c.args.entries.now in let b = c.args.in_body in let ls = c.in_ok-elements.elements.items in
+    let config = c.args.config.now in let es = c.args.class_table.now in let b = c.args.in_body in let ls = c.in_ok-elements.elements.items in
     let text = c.as_slice-text.ensures in let written = c.as_slice-all.ensures.value in let t = c.as_slice-text.result.now in let ws = c.as_slice-all.result.now in
     let d = c.in_ok-declared.declared in let has = c.in_ok-declared.ensures.has in
     record {

@@ -9,10 +9,10 @@ use Rattle.click_scopes.proofs.written_scopes.written_scope.Given as goal
 
 abbrev pub invariant-loop-statement : goal.invariant-loop-statement
 invariant-loop-statement l = record {
-  grows : IsMore l.fn.entries.items l.entries.items;
-  kept : (visible : List Statement) → Shows l.text l.fn.entries.items l.fn.nested_body.top visible →
-      Kept l.text l.entries.items l.nested_body.body l.top l.written.items l.fn.nested_bodies.items l.nested_bodies.items visible l.statement-index l.statements;
+  grows : IsMore l.fn.class_table.items l.class_table.items;
+  kept : (visible : List Statement) → Shows l.text l.fn.class_table.items l.fn.nested_body.visible_class visible →
+      Kept l.text l.class_table.items l.nested_body.body l.visible_class l.written.items l.fn.nested_bodies.items l.nested_bodies.items visible l.statement-index l.statements;
   ports : written_ports l.written.items ++ ports_in (drop l.statement-index l.statements) ≡ ports_in l.statements;
-  synonyms : (visible : List Statement) → Shows l.text l.fn.entries.items l.fn.nested_body.top visible →
-      Renamed l.text visible l.fn.entries.items l.entries.items l.statement-index l.statements;
+  synonyms : (visible : List Statement) → Shows l.text l.fn.class_table.items l.fn.nested_body.visible_class visible →
+      Renamed l.text visible l.fn.class_table.items l.class_table.items l.statement-index l.statements;
 }

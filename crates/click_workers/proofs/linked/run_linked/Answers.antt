@@ -22,7 +22,7 @@ returns-in-Ok-clause-worked g c =
       parts = w.parts;
       number = omega (arith, w.same.0.1, ap (λ (s : SeatState). s.number) new);
       worked = w.worked;
-      forwards = subst (λ (calls : List (Call × Reply)). Forwards (names_of c.args.linking.devices.now) calls w.after.0.calls (g.S.Outbound.tried c.args.linking.sender) (g.S.Outbound.tried c.in-Ok.ran.sender))
+      forwards = subst (λ (calls : List (Call × Reply)). Forwards (names_of c.args.linking.devices.now) calls w.after.0.calls (g.S.Outbound.attempts c.args.linking.sender) (g.S.Outbound.attempts c.in-Ok.ran.sender))
           (ap (λ (s : SeatState). s.calls) new) w.does.0;
     }
 

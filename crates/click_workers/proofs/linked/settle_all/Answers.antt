@@ -6,7 +6,7 @@ use Rattle.click_rings.specs.Feeds.{FeedName, have_distinct_devices}
 use Rattle.click_rings.proofs.Draws.{tail_apart}
 use Rattle.click_desk.specs.BookState.{BookState}
 use Rattle.click_desk.specs.declared.entry.Entry.{Entry}
-use Rattle.click_links.specs.declared.run.Receiving.{Receiving}
+use Rattle.click_links.specs.declared.run.Receiver.{Receiver}
 use Rattle.click_workers.specs.Linked.{HasRing, IsSettled}
 use Rattle.click_workers.specs.Work.{SideBySide}
 use Rattle.click_workers.specs.declared.linked.LinkEnd.{LinkEnd}
@@ -16,14 +16,14 @@ use Rattle.click_workers.proofs.linked.settle_all.Goals as goal
 
 pub settle_one-requires : goal.settle_one-requires
 settle_one-requires g c =
-    let R = Receiving g.row.L.Denot in
+    let R = Receiver g.row.L.Denot in
     let P : R → Type 0 = λ r. HasRing c.loop-receiver.book.consumers r.device r.intake.feed.ring in
     let all = subst (λ (l : List R). All P l) c.in-Some.ensures.steps.0 c.loop-receiver.invariant.feeds in
     All-head P c.in-Some.receiver (into_iter_items c.next.new.self) all
 
 pub loop-receiver-init : goal.loop-receiver-init
 loop-receiver-init g c =
-    let R = Receiving g.row.L.Denot in
+    let R = Receiver g.row.L.Denot in
     let F : R → FeedName = λ r. record { device = r.device; ring = r.intake.feed.ring } in
     let all = sym c.into_iter-receiver-iterator.ensures.into_iter_gives.0 in
     record {
@@ -39,7 +39,7 @@ pub loop-receiver-preserved : goal.loop-receiver-preserved
 loop-receiver-preserved g c =
     let h = c.loop-receiver.invariant in
     let s = c.settle_one.ensures in
-    let R = Receiving g.row.L.Denot in
+    let R = Receiver g.row.L.Denot in
     let F : R → FeedName = λ r. record { device = r.device; ring = r.intake.feed.ring } in
     let E = LinkEnd g.row.L.Denot in
     let P : R → Type 0 = λ r. HasRing c.loop-receiver.book.consumers r.device r.intake.feed.ring in

@@ -14,8 +14,8 @@ use Rattle.click_workers.proofs.runs.serve_and_close.Goals as goal
 pub close_and_check-book-requires-clause-once : goal.close_and_check-book-requires-clause-once
 close_and_check-book-requires-clause-once g c =
     let desk = c.args.opened.desk in
-    let s = c.serve_alone-ended.result.1 in
-    let session = rw c.new-port.ensures at c.serve_alone-ended.ensures in
+    let s = c.serve_ungated-ended.result.1 in
+    let session = rw c.new-port.ensures at c.serve_ungated-ended.ensures in
     let seats = c.push_reserved.new.self.items in
     let taken = last-new desk [] 0 1 c.args.opened.seats.items c.pop.new.self.items c.in-Some.seat c.requires.seats c.in-Some.ensures.items refl in
     let items : seats ≡ s ∷ [] = c.push_reserved.ensures.items ∙ ap (λ l. l ++ s ∷ []) taken.0 in
@@ -27,8 +27,8 @@ pub returns-clause-headline : goal.returns-clause-headline
 returns-clause-headline g c = λ text options.
     let closes = c.close_and_check-book.ensures.closes in
     let desk = c.args.opened.desk in
-    let s = c.serve_alone-ended.result.1 in
-    let session = rw c.new-port.ensures at c.serve_alone-ended.ensures in
+    let s = c.serve_ungated-ended.result.1 in
+    let session = rw c.new-port.ensures at c.serve_ungated-ended.ensures in
     let taken = last-new desk [] 0 1 c.args.opened.seats.items c.pop.new.self.items c.in-Some.seat c.requires.seats c.in-Some.ensures.items refl in
     let items : c.push_reserved.new.self.items ≡ s ∷ [] = c.push_reserved.ensures.items ∙ ap (λ l. l ++ s ∷ []) taken.0 in
     let of : IsOf desk [] s = (session.same.0 ∙ ap (λ (t : SeatState). t.desk) taken.1, session.same.2 ∙ ap (λ (t : SeatState). t.feeds) taken.1) in
@@ -43,8 +43,8 @@ pub returns-clause-served : goal.returns-clause-served
 returns-clause-served g c = λ text options.
     let book = c.close_and_check-book.result.0 in
     let desk = c.args.opened.desk in
-    let s = c.serve_alone-ended.result.1 in
-    let session = rw c.new-port.ensures at c.serve_alone-ended.ensures in
+    let s = c.serve_ungated-ended.result.1 in
+    let session = rw c.new-port.ensures at c.serve_ungated-ended.ensures in
     let closes = c.close_and_check-book.ensures.closes in
     let taken = last-new desk [] 0 1 c.args.opened.seats.items c.pop.new.self.items c.in-Some.seat c.requires.seats c.in-Some.ensures.items refl in
     let seats : book.seats ≡ s ∷ [] = closes.seats_are ∙ c.push_reserved.ensures.items ∙ ap (λ l. l ++ s ∷ []) taken.0 in
@@ -56,8 +56,8 @@ returns-clause-served g c = λ text options.
       seat = s;
       seats = seats;
       number = number;
-      served = subst (λ o. SeatServes c.args.readonly most_reads NoneRefused o s (g.S.Source.input c.args.reader.now) (g.S.Source.input c.serve_alone-ended.new.reader)
-          (g.W.Sink.output c.args.writer.now) (g.W.Sink.output c.serve_alone-ended.new.writer) c.serve_alone-ended.result.0) fresh session;
+      served = subst (λ o. SeatServes c.args.readonly most_reads NoneRefused o s (g.S.Source.input c.args.reader.now) (g.S.Source.input c.serve_ungated-ended.new.reader)
+          (g.W.Sink.output c.args.writer.now) (g.W.Sink.output c.serve_ungated-ended.new.writer) c.serve_ungated-ended.result.0) fresh session;
       alone = subst (λ n. Legal text (entries_of n s.calls) book.router) number (one-seat text book s headline seats).1;
     }
 

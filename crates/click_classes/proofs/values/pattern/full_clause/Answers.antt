@@ -3,8 +3,8 @@ use Rattle.std.proofs.lemmas.List.{take-replicate}
 use Rattle.click_classes.proofs.OfPatterns.Clauses.{clause_of-long}
 use Rattle.click_classes.proofs.values.pattern.full_clause.Goals as goal
 
-pub returns-then-digits-gt-MOST_DIGITS : goal.returns-then-digits-gt-MOST_DIGITS
-returns-then-digits-gt-MOST_DIGITS c = inr (clause_of-long c.args.negated c.args.offset c.args.digits.now _ (omega arith))
+pub returns-then-digits-gt-MAX_PATTERN_DIGITS : goal.returns-then-digits-gt-MAX_PATTERN_DIGITS
+returns-then-digits-gt-MAX_PATTERN_DIGITS c = inr (clause_of-long c.args.negated c.args.offset c.args.digits.now _ (omega arith))
 
 pub returns : goal.returns
 returns c =

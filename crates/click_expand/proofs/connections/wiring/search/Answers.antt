@@ -6,16 +6,16 @@ use Rattle.click_expand.specs.declared.connections.connection_index.InstancePort
 use Rattle.click_expand.specs.kept.Wiring.{scope_port, instance_port, IsFrom}
 use Rattle.click_expand.proofs.OfConnections.PortSearch.{gains-none, goes-first, goes-next, goes-all}
 use Rattle.click_expand.proofs.connections.wiring.search.Goals as goal
-use Rattle.click_expand.proofs.connections.wiring.search.Goals.{then-loop-at-test+else-len-le-MOST_CONNECTIONS, else-loop-at-test}
+use Rattle.click_expand.proofs.connections.wiring.search.Goals.{then-loop-at-test+else-len-le-MAX_CONNECTIONS, else-loop-at-test}
 
 abbrev blank : InstancePort
 blank = instance_port 0 (scope_port owner.Input 0)
 
-pub returns-then-len-gt-MOST_CONNECTIONS-clause-more : goal.returns-then-len-gt-MOST_CONNECTIONS-clause-more
-returns-then-len-gt-MOST_CONNECTIONS-clause-more c = gains-none (IsFrom c.args.instances.now c.args.indices.now c.args.from.primitive_element c.args.from.start) c.args.found.now.keys
+pub returns-then-len-gt-MAX_CONNECTIONS-clause-more : goal.returns-then-len-gt-MAX_CONNECTIONS-clause-more
+returns-then-len-gt-MAX_CONNECTIONS-clause-more c = gains-none (IsFrom c.args.instances.now c.args.indices.now c.args.from.primitive_element c.args.from.start) c.args.found.now.keys
 
-pub returns-then-len-gt-MOST_CONNECTIONS-clause-all : goal.returns-then-len-gt-MOST_CONNECTIONS-clause-all
-returns-then-len-gt-MOST_CONNECTIONS-clause-all c = λ few. absurd (let n = c.len.ensures.len in let f = c.if-len-gt-MOST_CONNECTIONS.true in omega (arith, few, n, f))
+pub returns-then-len-gt-MAX_CONNECTIONS-clause-all : goal.returns-then-len-gt-MAX_CONNECTIONS-clause-all
+returns-then-len-gt-MAX_CONNECTIONS-clause-all c = λ few. absurd (let n = c.len.ensures.len in let f = c.if-len-gt-MAX_CONNECTIONS.true in omega (arith, few, n, f))
 
 pub loop-at-init : goal.loop-at-init
 loop-at-init c =
@@ -34,8 +34,8 @@ pub returns-clause-all : goal.returns-clause-all
 returns-clause-all c = λ few.
     let n = c.len-in-loop-at.ensures.len in
     elim c.loop-at-test.branch [
-      | then-loop-at-test+else-len-le-MOST_CONNECTIONS w ↦
-          absurd (let m = w.len-in-loop-at-2.ensures.len in let f = w.if-len-le-MOST_CONNECTIONS.false in omega (arith, few, m, f))
+      | then-loop-at-test+else-len-le-MAX_CONNECTIONS w ↦
+          absurd (let m = w.len-in-loop-at-2.ensures.len in let f = w.if-len-le-MAX_CONNECTIONS.false in omega (arith, few, m, f))
       | else-loop-at-test w ↦
           goes-all c.args.instances.now c.args.indices.now c.args.from.primitive_element c.args.from.start c.loop-at.seen.keys c.args.found.now.keys c.loop-at.found.keys c.loop-at.at c.loop-at.invariant
           (let f = w.loop-at-test.false in omega (arith, f, n))

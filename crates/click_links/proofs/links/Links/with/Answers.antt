@@ -4,12 +4,12 @@ use Rattle.std.proofs.lemmas.List.{map-append}
 use Rattle.std.proofs.lemmas.List.Elements.{All-push}
 use Rattle.click_rings.specs.Feeds.{FeedName, RingName}
 use Rattle.click_links.specs.Ends.{IsNewFeed, Offering}
-use Rattle.click_links.specs.declared.run.Receiving.{Receiving}
+use Rattle.click_links.specs.declared.run.Receiver.{Receiver}
 use Rattle.click_links.proofs.links.Links.with.Goals as goal
 
 pub invariant_of-result : goal.invariant_of-result
 invariant_of-result g c =
-    let R = Receiving g.row.L.Denot in
+    let R = Receiver g.row.L.Denot in
     let named : List ℕ → RingName → FeedName = λ d r. record { device = d; ring = r } in
     let F : R → FeedName = λ r. record { device = r.device; ring = r.intake.feed.ring } in
     let P : R → Type 0 = λ r. IsNewFeed r.intake in

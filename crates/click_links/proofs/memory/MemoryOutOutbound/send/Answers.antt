@@ -6,7 +6,7 @@ use Rattle.click_links.proofs.memory.MemoryOutOutbound.send.Goals as goal
 
 pub invariant_of-self : goal.invariant_of-self
 invariant_of-self c =
-    c.keep-went.ensures
-    ∙ (ap (λ (l : List (List ℕ × Packet)). l ++ (if c.keep-went.result then (c.args.device.now, c.args.packet.now) ∷ [] else [])) c.self.invariant
-    ∙ (sym (gone_one c.self.inside.tried c.args.device.now c.args.packet.now c.keep-went.result)
+    c.keep-sent.ensures
+    ∙ (ap (λ (l : List (List ℕ × Packet)). l ++ (if c.keep-sent.result then (c.args.device.now, c.args.packet.now) ∷ [] else [])) c.self.invariant
+    ∙ (sym (gone_one c.self.inside.tried c.args.device.now c.args.packet.now c.keep-sent.result)
     ∙ ap (λ (l : List Attempt). gone l) (sym c.add.ensures)))

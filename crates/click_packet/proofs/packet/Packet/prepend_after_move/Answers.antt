@@ -10,7 +10,7 @@ returns c =
     let before = c.as_mut_slice-content.ensures.value in
     let content = c.as_mut_slice-content.result.now in
     let moved = c.move_to_end.new.content in
-    let seen : List ℕ → Packet = λ bytes. record { bytes = bytes; paint = p.marks.paint; destination = p.marks.destination } in
+    let seen : List ℕ → Packet = λ bytes. record { bytes = bytes; paint = p.annotations.paint; destination = p.annotations.destination } in
     let bytes = ap (λ (q : Packet). length q.bytes) c.self.view_is in
     let len = held p.content.items p.start p.len (omega arith) in
     let place : 1664 - p.len - length front + length front ≡ length content - p.len = omega (arith, bytes, len, c.requires, ap length before) in

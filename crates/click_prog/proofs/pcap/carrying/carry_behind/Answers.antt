@@ -1,5 +1,5 @@
 use Rattle.std.proofs.Common.{ℕ, List, inr, subst, false}
-use Rattle.click_control.specs.Peers.{HasWritten}
+use Rattle.click_streams.specs.Peers.{HasWritten}
 use Rattle.click_prog.specs.Buffers.{taken}
 use Rattle.click_prog.proofs.Passing.{begun}
 use Rattle.click_prog.proofs.pcap.carrying.carry_behind.Goals as goal

@@ -1,6 +1,6 @@
 use Rattle.std.proofs.Common.{◌≡◌, [], List, length}
 use Rattle.click_capture.specs.Captures.{Record}
-use Rattle.click_control.specs.Peers.{Input, Output}
+use Rattle.click_streams.specs.Peers.{Input, Output}
 use Rattle.click_prog.specs.Buffers.{taken}
 use Rattle.click_prog.specs.Passages.{PassageState}
 use Rattle.click_prog.specs.Carrying.{Carried, IsNextAt}

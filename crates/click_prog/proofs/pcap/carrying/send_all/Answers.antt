@@ -1,7 +1,6 @@
 use Rattle.std.proofs.Common.{◌≡◌, ℕ, ◌+◌, List, [], ◌∷◌, ◌++◌, false, true, sym, ap, subst, ◌∙◌}
-use Rattle.click_control.specs.Peers.{HasWritten}
+use Rattle.click_streams.specs.Peers.{HasWritten, WroteFront}
 use Rattle.click_capture.specs.Captures.{whole, record_bytes}
-use Rattle.click_prog.specs.Writing.{WroteFront}
 use Rattle.click_prog.proofs.Outputs.{HasWritten-then}
 use Rattle.click_prog.proofs.Passing.{asks-more, one-more, records_at-more}
 use Rattle.click_prog.specs.Carrying.{records_at}

@@ -1,5 +1,5 @@
 use Rattle.std.proofs.Common.{◌≡◌, List, length, false}
-use Rattle.click_control.specs.Peers.{HasWritten}
+use Rattle.click_streams.specs.Peers.{HasWritten}
 use Rattle.click_packet.specs.Packet.{Packet}
 use Rattle.click_prog.specs.Carrying.{records_at}
 use Rattle.click_prog.specs.Passages.{went, Gave}

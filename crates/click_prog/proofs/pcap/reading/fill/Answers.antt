@@ -1,7 +1,7 @@
 use Rattle.std.proofs.Common.{◌-◌, length, sym, subst, ◌∙◌}
 use Rattle.std.specs.Io.KnownBytes.{Consumes}
 use Rattle.std.proofs.KnownBytes.{Consumes-trans}
-use Rattle.click_prog.proofs.Peers.{or-false}
+use Rattle.click_streams.proofs.Peers.{or-false}
 use Rattle.click_prog.proofs.Pieces.{grown, grown-len}
 use Rattle.click_prog.proofs.pcap.reading.fill.Goals as goal
 

@@ -6,8 +6,8 @@ use Rattle.click_text.proofs.OfParser.StateTokens.{begun_by, classed_by, define_
 use Rattle.click_text.proofs.OfParser.ParserSteps.{taken, refused, refused_at_end, same_step, stops_from, too_deep, opened, closed_at, lists, chain_first}
 use Rattle.click_text.proofs.parser.Parser.+parser.Goals as goal
 
-pub body-returns-then-depth-ge-MOST_OPEN-clause-stops : goal.body-returns-then-depth-ge-MOST_OPEN-clause-stops
-body-returns-then-depth-ge-MOST_OPEN-clause-stops t c = λ s u h. too_deep c.args.depth s _ c.args.brace _ _ c.requires h (omega arith)
+pub body-returns-then-depth-ge-MAX_OPEN_BRACES-clause-stops : goal.body-returns-then-depth-ge-MAX_OPEN_BRACES-clause-stops
+body-returns-then-depth-ge-MAX_OPEN_BRACES-clause-stops t c = λ s u h. too_deep c.args.depth s _ c.args.brace _ _ c.requires h (omega arith)
 
 pub body-returns-in_err-formals-clause-stops : goal.body-returns-in_err-formals-clause-stops
 body-returns-in_err-formals-clause-stops t c =

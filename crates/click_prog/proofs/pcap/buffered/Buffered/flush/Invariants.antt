@@ -1,5 +1,5 @@
 use Rattle.std.proofs.Common.{◌≡◌, ◌≤◌, [], length, false, vec_capacity}
-use Rattle.click_control.specs.Peers.{HasWritten}
+use Rattle.click_streams.specs.Peers.{HasWritten}
 use Rattle.click_prog.specs.Buffers.{taken}
 use Rattle.click_prog.proofs.pcap.buffered.Buffered.flush.Given as goal
 

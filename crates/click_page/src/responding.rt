@@ -1,0 +1,167 @@
+//! The response to a request.
+
+ghost use Rattle.std.specs.Prelude.{◌≡◌, codes, false, length, MatchResult, OnOk};
+ghost use Rattle.serde_json.specs.View.{view};
+ghost use Rattle.serde_json.specs.Written.{compact_text, has_float};
+ghost use Rattle.http_server.specs.Response.{IsBlank};
+ghost use Rattle.click_router.specs.FaultText.{fault_text};
+ghost use Rattle.click_router.specs.Opened.{IsMemory};
+ghost use Rattle.click_page.specs.Asking.{commands_of, reading};
+ghost use Rattle.click_draw.specs.Drawn.{IsPicture};
+ghost use Rattle.click_page.specs.Form.{IsFlatText};
+ghost use Rattle.click_page.specs.Saying.{Says, SaysFor, SaysMade, entry_of, fault_data, refusal_line, status_of};
+
+use crate::answer_json::{fault_entry, read_entries, read_entry, write_entry};
+use crate::content_kind::ContentKind;
+use crate::flat_json::flat_text;
+use crate::headers::{bytes_response, text_response};
+use crate::page_request::{PageRequest, RequestRefusal};
+use crate::page_text::PAGE;
+use crate::values::json_text;
+use bytes::Bytes;
+use click_control::Answer;
+use click_draw::picture_of;
+use click_router::{ConfigFault, FaultKind, Reply};
+use http::StatusCode;
+use http_server::Response;
+use serde_json::Value;
+use std::alloc::{AllocError, Global};
+
+/// Returns the status of a refusal.
+fn status_of(why: RequestRefusal) -> StatusCode
+    ensures { result ≡ status_of why }
+{
+    match why {
+        RequestRefusal::ForeignHost | RequestRefusal::MissingHeader => StatusCode::FORBIDDEN,
+        RequestRefusal::NotFound => StatusCode::NOT_FOUND,
+        RequestRefusal::WrongMethod => StatusCode::METHOD_NOT_ALLOWED,
+        RequestRefusal::WrongQuery => StatusCode::BAD_REQUEST,
+    }
+}
+
+/// Returns the line of a refusal.
+fn refusal_line(why: RequestRefusal) -> &'static [u8]
+    ensures { result.now ≡ refusal_line why }
+{
+    match why {
+        RequestRefusal::ForeignHost => b"this page is at 127.0.0.1 alone\n",
+        RequestRefusal::NotFound => b"there is nothing of that name\n",
+        RequestRefusal::WrongMethod => b"another method is wanted here\n",
+        RequestRefusal::MissingHeader => b"a write needs the header x-click-page\n",
+        RequestRefusal::WrongQuery => b"the query names no handlers, or too many\n",
+    }
+}
+
+/// Responds with a refusal.
+fn say_refusal(why: RequestRefusal, response: &mut Response) -> Result<(), AllocError>
+    requires { IsBlank response.old }
+    ensures { OnOk result (Says (status_of why) ContentKind.Text (refusal_line why) response.new) }
+{
+    let line = Bytes::from_static(refusal_line(why));
+    bytes_response(status_of(why), ContentKind::Text, line, response)
+}
+
+/// Responds with a JSON value.
+fn say_value(alloc: Global, value: &Value, response: &mut Response) -> Result<(), AllocError>
+    requires blank { IsBlank response.old }
+    requires whole { has_float (view value.now) ≡ false }
+    ensures { OnOk result (Says 200 ContentKind.Json (compact_text (view value.now)) response.new) }
+{
+    text_response(ContentKind::Json, json_text(alloc, value)?, response)
+}
+
+/// Responds with the fault of a text.
+fn say_fault(alloc: Global, fault: &ConfigFault, response: &mut Response) -> Result<(), AllocError>
+    requires { IsBlank response.old }
+    ensures { OnOk result (Says 200 ContentKind.Json (compact_text (fault_data 520 (fault_text fault.now))) response.new) }
+{
+    let text = fault.text(alloc)?;
+    say_value(alloc, &fault_entry(alloc, 520, text.as_slice())?, response)
+}
+
+/// Responds with what was made of a text, or with the fault of the text.
+fn say_made(
+    alloc: Global,
+    kind: ContentKind,
+    made: Result<Vec<u8>, ConfigFault>,
+    response: &mut Response,
+) -> Result<(), AllocError>
+    requires { IsBlank response.old }
+    ensures { OnOk result (MatchResult made (λ made. Says 200 kind made.items response.new)
+        (λ fault. (IsMemory fault → ⊥) × Says 200 ContentKind.Json (compact_text (fault_data 520 (fault_text fault))) response.new)) }
+{
+    match made {
+        Ok(made) => text_response(kind, made, response),
+        Err(fault) if fault.kind == FaultKind::NoMemory => Err(AllocError),
+        Err(fault) => say_fault(alloc, &fault, response),
+    }
+}
+
+/// Responds with the reason why the running configuration was not read.
+fn say_unread(alloc: Global, answer: &Answer, response: &mut Response) -> Result<(), AllocError>
+    requires { IsBlank response.old }
+    ensures { OnOk result (Says 200 ContentKind.Json (compact_text (entry_of (reading (codes "config")) answer.now)) response.new) }
+{
+    say_value(alloc, &read_entry(alloc, b"config", answer)?, response)
+}
+
+/// Responds with the picture of the configuration that was read.
+fn say_picture(alloc: Global, answer: &Answer, response: &mut Response) -> Result<(), AllocError>
+    requires { IsBlank response.old }
+    ensures { OnOk result (SaysMade ContentKind.Svg IsPicture answer.now response.new) }
+{
+    match answer {
+        Answer::Replied(Reply::Value(text)) => {
+            let picture = picture_of(alloc, text.as_slice());
+            say_made(alloc, ContentKind::Svg, picture, response)
+        }
+        _ => say_unread(alloc, answer, response),
+    }
+}
+
+/// Responds with the flat form of the configuration that was read.
+fn say_flat(alloc: Global, answer: &Answer, response: &mut Response) -> Result<(), AllocError>
+    requires { IsBlank response.old }
+    ensures { OnOk result (SaysMade ContentKind.Json IsFlatText answer.now response.new) }
+{
+    match answer {
+        Answer::Replied(Reply::Value(text)) => {
+            let form = flat_text(alloc, text.as_slice());
+            say_made(alloc, ContentKind::Json, form, response)
+        }
+        _ => say_unread(alloc, answer, response),
+    }
+}
+
+/// Responds to a request whose commands were answered in this way. After an error, part of the
+/// response may have been written.
+pub(crate) fn respond(
+    alloc: Global,
+    page_request: &PageRequest,
+    answers: &[Answer],
+    response: &mut Response,
+) -> Result<(), AllocError>
+    requires blank { IsBlank response.old }
+    requires many { length answers.now ≡ length (commands_of page_request.now) }
+    ensures { OnOk result (SaysFor page_request.now answers.now response.new) }
+{
+    match page_request {
+        PageRequest::Page => bytes_response(
+            StatusCode::OK,
+            ContentKind::Html,
+            Bytes::from_static(PAGE),
+            response,
+        ),
+        PageRequest::Picture => say_picture(alloc, &answers[0], response),
+        PageRequest::Flat => say_flat(alloc, &answers[0], response),
+        PageRequest::Read { handlers } => {
+            let told = read_entries(alloc, handlers.as_slice(), answers)?;
+            say_value(alloc, &told, response)
+        }
+        PageRequest::Write { handler, .. } => {
+            let told = write_entry(alloc, handler.as_slice(), &answers[0])?;
+            say_value(alloc, &told, response)
+        }
+        PageRequest::Refused(why) => say_refusal(*why, response),
+    }
+}

@@ -1,0 +1,60 @@
+//! Borrowed names in order, without repetition.
+
+ghost use Rattle.std.specs.Prelude.{◌≡◌, [], ◌∷◌, ◌++◌, IfOk, OnOk, OnErr, position, if◌then◌else◌};
+ghost use Rattle.std.specs.Str.{bytes_eq};
+ghost use Rattle.click_scopes.specs.Elements.{has_name};
+
+use indexmap::IndexSet;
+use std::alloc::{AllocError, Global};
+use std::marker::Model;
+
+/// Names in order, without repetition, that are borrowed and not copied.
+#[derive(Drop)]
+pub(crate) struct BorrowedNames<'a> {
+    set: IndexSet<&'a [u8]>,
+}
+
+impl<'a> Model for BorrowedNames<'a> {
+    ghost use Rattle.std.specs.Prelude.{ℕ, List, map};
+
+    ghost Value = { List (List ℕ) };
+
+    ghost view = { λ n. map (λ v. v.now) n.set.keys };
+}
+
+impl<'a> BorrowedNames<'a> {
+    /// Returns an empty list with room for `count` names, or fails with out of memory.
+    pub(crate) fn with_room(alloc: Global, count: usize) -> Result<BorrowedNames<'a>, AllocError>
+        ensures { IfOk result (λ names. names ≡ []) }
+    {
+        Ok(BorrowedNames {
+            set: IndexSet::with_capacity(alloc, count)?,
+        })
+    }
+
+    /// Returns whether the name is in the list.
+    pub(crate) fn has(&self, name: &[u8]) -> bool
+        ensures { result ≡ has_name name.now self.now }
+    {
+        self.set.contains(name)
+    }
+
+    /// Returns the index of the name, if it is in the list.
+    pub(crate) fn place(&self, name: &[u8]) -> Option<usize>
+        ensures { result ≡ position (bytes_eq name.now) self.now }
+    {
+        self.set.get_index_of(name)
+    }
+
+    /// Appends the name if it is new. Returns whether it was in the list.
+    ///
+    /// If it fails with out of memory, the list is unchanged.
+    pub(crate) fn add(&mut self, name: &'a [u8]) -> Result<bool, AllocError>
+        ensures taken { IfOk result (λ taken. taken ≡ has_name name.now self.old) }
+        ensures added { OnOk result (self.new ≡ (if has_name name.now self.old then self.old else self.old ++ name.now ∷ [])) }
+        ensures err { OnErr result (self.new ≡ self.old) }
+    {
+        let added = self.set.insert(name)?;
+        Ok(!added)
+    }
+}
