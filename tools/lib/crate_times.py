@@ -4,9 +4,9 @@
     crate_times.py PROCESS FILE
 
 Looks at the descendants of PROCESS every two seconds, until it ends or this program gets SIGTERM.
-Then writes FILE. A process of the prover names
-its crate with --crate-name. The mutants in must-fail/ are checked in temporary folders whose names
-begin with `rt-edit`. A check that ends within two seconds is not seen.
+Then writes FILE. A process of the prover names its crate with --crate-name. The mutants in
+must-fail/ are checked in temporary folders whose names begin with `rt-edit`. A check that ends
+within two seconds is not counted, and up to two seconds at the end of each check are missing.
 """
 
 from __future__ import annotations

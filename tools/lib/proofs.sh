@@ -11,6 +11,7 @@ sources=$(sum_of_sources)
 # much and leaves processors idle.
 most=$(awk -v most="$(nproc)" '/^MemAvailable:/ { room = int($2 / 4000000); print room < 1 ? 1 : room < most ? room : most }' /proc/meminfo)
 mkdir -p out
+rm -f out/crate-times.txt
 tools/lib/crate_times.py $$ out/crate-times.txt &
 times=$!
 status=0
