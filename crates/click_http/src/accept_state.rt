@@ -1,5 +1,8 @@
 //! Whether the listener is asked for connections.
 
+ghost use Rattle.std.specs.Prelude.{◌≡◌, ◌↔◌, IsTrue};
+ghost use Rattle.std.specs.IoError.{error_kind};
+
 use crate::settings::tick;
 use std::io;
 use std::io::ErrorKind;
@@ -17,8 +20,12 @@ pub(crate) enum AcceptState {
 }
 
 impl AcceptState {
+    ghost use Rattle.click_http.specs.Accepting.{state_after, state_at};
+
     /// Returns the state after the system returned no connection.
-    pub(crate) fn after(fault: &io::Error, now: Instant) -> AcceptState {
+    pub(crate) fn after(fault: &io::Error, now: Instant) -> AcceptState
+        ensures { result ≡ state_after (error_kind fault.now) now }
+    {
         match fault.kind() {
             ErrorKind::WouldBlock => AcceptState::Quiet,
             ErrorKind::Interrupted | ErrorKind::ConnectionAborted => AcceptState::Open,
@@ -27,14 +34,23 @@ impl AcceptState {
     }
 
     /// Returns the state at a later time.
-    pub(crate) fn at(self, now: Instant) -> AcceptState {
-        match self {
-            AcceptState::Shut(since) if now.duration_since(since) >= tick() => AcceptState::Open,
-            _ => self,
+    pub(crate) fn at(self, now: Instant) -> AcceptState
+        ensures { result ≡ state_at self now }
+    {
+        let AcceptState::Shut(since) = self else {
+            return self;
+        };
+        if now.duration_since(since).as_nanos() < tick().as_nanos() {
+            self
+        } else {
+            AcceptState::Open
         }
     }
 
-    pub(crate) fn is_open(self) -> bool {
+    /// Returns whether the system is asked for connections.
+    pub(crate) fn is_open(self) -> bool
+        ensures { IsTrue result ↔ (self ≡ AcceptState.Open) }
+    {
         self == AcceptState::Open
     }
 }

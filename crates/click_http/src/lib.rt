@@ -7,6 +7,9 @@ mod peer;
 mod phase;
 mod serving;
 mod settings;
+mod sockets;
+mod step;
+mod timer;
 
 pub use http_listener::{HttpListener, open_http_listener};
 pub use serving::{Ended, serve_until};

@@ -1,17 +1,20 @@
 //! One connection, with its socket.
 
-ghost use Rattle.std.specs.Prelude.{◌≡◌};
-ghost use Rattle.http_server.specs.Connection.{config_of};
+ghost use Rattle.std.specs.Prelude.{◌≡◌, ◌≢◌, true, false, IsTrue, IsFalse};
+ghost use Rattle.http_server.specs.Connection.{config_of, history};
+ghost use Rattle.http_server.specs.History.{WantsRead};
 ghost use Rattle.click_http.specs.Leading.{page_config, Leads};
+ghost use Rattle.click_http.specs.Phases.{begins, IsInTime, HasOutput, HasNoOutput, HasAnswer, Suits};
 
 use crate::phase::Phase;
 use crate::settings::page_limits;
+use crate::step::Step;
+use crate::timer::{Timer, Verdict};
 use http_server::{Connection, Service};
 use mio::net::TcpStream;
 use std::alloc::Global;
 use std::hash::RandomState;
-use std::io;
-use std::io::{ErrorKind, Read, Write};
+use std::io::{Read, Write};
 use std::net::Shutdown;
 use std::time::Instant;
 
@@ -32,24 +35,23 @@ const OVERDUE: &[u8] =
 const FULL: &[u8] =
     b"HTTP/1.1 503 Service Unavailable\r\ncontent-length: 0\r\nconnection: close\r\n\r\n";
 
-/// The outcome of a step.
-#[derive(Clone, Copy, Debug, PartialEq, Eq)]
-enum Step {
-    /// More may be possible without waiting.
-    More,
-    /// The next step has to wait until the system reports the socket.
-    Wait,
-    /// The connection has to be closed.
-    Over,
+/// Returns whether a response is pending. The interim response does not count.
+fn has_answer(connection: &Connection) -> bool
+    ensures some { HasAnswer connection.now → IsTrue result }
+    ensures none { IsTrue result → HasOutput connection.now }
+{
+    connection.wants_write() && connection.output() != CONTINUE
 }
 
-/// Returns the outcome of a step whose read or write failed.
-fn step_after(fault: &io::Error) -> Step {
-    match fault.kind() {
-        ErrorKind::WouldBlock => Step::Wait,
-        ErrorKind::Interrupted => Step::More,
-        _ => Step::Over,
-    }
+/// Records that the service was called, if there was a request to answer.
+fn note_called(timer: &mut Timer, connection: &Connection, now: Instant)
+    requires { timer.old.phase ≢ Phase.HalfClosed }
+    ensures suits { Suits timer.new.phase connection.now }
+    ensures answer { HasAnswer connection.now → timer.new ≡ begins Phase.Sending now }
+    ensures sent { HasNoOutput connection.now → timer.old.phase ≡ Phase.Sending → timer.new ≡ begins Phase.Idle now }
+    ensures other { HasNoOutput connection.now → timer.old.phase ≢ Phase.Sending → timer.new ≡ timer.old }
+{
+    timer.note_called(has_answer(connection), now);
 }
 
 /// An accepted connection.
@@ -60,9 +62,7 @@ fn step_after(fault: &io::Error) -> Step {
 pub(crate) struct Peer {
     stream: TcpStream,
     connection: Connection,
-    phase: Phase,
-    /// The time when the phase began, or when the peer last took a part of the output.
-    since: Instant,
+    timer: Timer,
     /// Whether a read may succeed. The system reports changes only, so this stays true until a read
     /// would block.
     readable: bool,
@@ -71,15 +71,20 @@ pub(crate) struct Peer {
     /// Whether the peer has ended its output.
     ended: bool,
     ghost limits: { config_of connection ≡ page_config },
+    ghost suits: { Suits timer.phase connection },
+    ghost input: { ended ≡ (history connection).ended },
 }
 
 impl Peer {
-    pub(crate) fn new(alloc: Global, keys: RandomState, stream: TcpStream, now: Instant) -> Peer {
+    ghost use Rattle.click_http.specs.Readiness.{IsReadiness, IsNew, IsTimed, IsHalfClosed, IsVerdict, IsLimited, woken};
+
+    pub(crate) fn new(alloc: Global, keys: RandomState, stream: TcpStream, now: Instant) -> Peer
+        ensures { IsNew result now }
+    {
         Peer {
             stream,
             connection: Connection::new(alloc, keys, page_limits()),
-            phase: Phase::Idle,
-            since: now,
+            timer: Timer::begin(Phase::Idle, now),
             readable: true,
             writable: true,
             ended: false,
@@ -87,14 +92,18 @@ impl Peer {
     }
 
     /// Records that the system reported the socket.
-    pub(crate) fn wake(&mut self, readable: bool, writable: bool) {
+    pub(crate) fn wake(&mut self, readable: bool, writable: bool)
+        ensures { self.new ≡ woken self.old readable writable }
+    {
         self.readable = self.readable || readable;
         self.writable = self.writable || writable;
     }
 
     /// Returns whether a step would do something without waiting.
-    pub(crate) fn is_ready(&self) -> bool {
-        if self.phase == Phase::HalfClosed {
+    pub(crate) fn is_ready(&self) -> bool
+        ensures { IsReadiness self.now result }
+    {
+        if self.timer.phase == Phase::HalfClosed {
             self.readable
         } else if self.connection.wants_write() {
             self.writable
@@ -103,47 +112,25 @@ impl Peer {
         }
     }
 
-    fn enter(&mut self, phase: Phase, now: Instant) {
-        self.phase = phase;
-        self.since = now;
-    }
-
-    /// Returns whether a response is pending. The interim response does not count.
-    fn has_answer(&self) -> bool {
-        self.connection.wants_write() && self.connection.output() != CONTINUE
-    }
-
-    /// Records that a read returned this number of bytes. 0 means the end of the input.
-    fn note_read(&mut self, count: usize, now: Instant) {
-        if count == 0 {
-            self.ended = true;
-        } else if self.phase == Phase::Idle {
-            self.enter(Phase::Begun, now);
-        }
-    }
-
-    /// Records that the service was called, if there was a request to answer.
-    fn note_called(&mut self, now: Instant) {
-        if self.has_answer() {
-            self.enter(Phase::Sending, now);
-        } else if self.phase == Phase::Sending {
-            self.enter(Phase::Idle, now);
-        }
-    }
-
     /// Writes pending output once.
     fn write<S: Service>(&mut self, service: &mut S, now: Instant) -> Step
-        ensures { Leads S.answers service.old service.new }
+        requires phase { self.old.timer.phase ≢ Phase.HalfClosed }
+        requires output { HasOutput self.old.connection }
+        requires ready { IsTrue self.old.writable }
+        ensures leads { Leads S.answers service.old service.new }
+        ensures wait { result ≡ Step.Wait → IsReadiness self.new false }
+        ensures over { result ≡ Step.Over → IsReadiness self.new true }
+        ensures timed { result ≡ Step.More → IsTimed self.old self.new now }
     {
         match self.connection.write_to(&mut self.stream) {
             Ok(0) => Step::Over,
             Ok(_) => {
                 self.connection.advance(service);
-                self.note_called(now);
+                note_called(&mut self.timer, &self.connection, now);
                 Step::More
             }
             Err(fault) => {
-                let step = step_after(&fault);
+                let step = Step::after(&fault);
                 self.writable = step != Step::Wait;
                 step
             }
@@ -152,17 +139,27 @@ impl Peer {
 
     /// Reads once, and has the service answer the requests that were read.
     fn read<S: Service>(&mut self, service: &mut S, now: Instant) -> Step
-        ensures { Leads S.answers service.old service.new }
+        requires phase { self.old.timer.phase ≢ Phase.HalfClosed }
+        requires output { HasNoOutput self.old.connection }
+        requires input { WantsRead page_config (history self.old.connection) }
+        ensures leads { Leads S.answers service.old service.new }
+        ensures wait { result ≡ Step.Wait → IsReadiness self.new false }
+        ensures over { result ≡ Step.Over → IsReadiness self.new true }
+        ensures timed { result ≡ Step.More → IsTimed self.old self.new now }
     {
         match self.connection.read_from(&mut self.stream) {
             Ok(count) => {
-                self.note_read(count, now);
+                if count == 0 {
+                    self.ended = true;
+                } else {
+                    self.timer.note_bytes(now);
+                }
                 self.connection.advance(service);
-                self.note_called(now);
+                note_called(&mut self.timer, &self.connection, now);
                 Step::More
             }
             Err(fault) => {
-                let step = step_after(&fault);
+                let step = Step::after(&fault);
                 self.readable = step != Step::Wait;
                 step
             }
@@ -171,35 +168,50 @@ impl Peer {
 
     /// Ends the output. The peer may still send, so that it can read the whole response before the
     /// connection is closed.
-    fn shut_output(&mut self, now: Instant) -> Step {
+    fn shut_output(&mut self, now: Instant) -> Step
+        requires phase { self.old.timer.phase ≢ Phase.HalfClosed }
+        requires output { HasNoOutput self.old.connection }
+        ensures wait { result ≢ Step.Wait }
+        ensures over { result ≡ Step.Over → self.new ≡ self.old }
+        ensures more { result ≡ Step.More → IsHalfClosed self.old self.new now }
+    {
         if self.ended || self.stream.shutdown(Shutdown::Write).is_err() {
             Step::Over
         } else {
-            self.enter(Phase::HalfClosed, now);
+            self.timer = Timer::begin(Phase::HalfClosed, now);
             Step::More
         }
     }
 
     /// Reads once, and drops what was read.
-    fn drain(&mut self) -> Step {
+    fn drain(&mut self) -> Step
+        requires phase { self.old.timer.phase ≡ Phase.HalfClosed }
+        requires ready { IsTrue self.old.readable }
+        ensures wait { result ≡ Step.Wait → IsReadiness self.new false }
+        ensures over { result ≡ Step.Over → IsReadiness self.new true }
+        ensures timer { self.new.timer ≡ self.old.timer }
+    {
         let mut scratch = [0u8; SCRATCH_BYTES];
         match self.stream.read(&mut scratch) {
             Ok(0) => Step::Over,
             Ok(_) => Step::More,
             Err(fault) => {
-                let step = step_after(&fault);
+                let step = Step::after(&fault);
                 self.readable = step != Step::Wait;
                 step
             }
         }
     }
 
+    /// Does what the phase and the connection ask for, if the socket permits it.
     fn step<S: Service>(&mut self, service: &mut S, now: Instant) -> Step
-        ensures { Leads S.answers service.old service.new }
+        ensures leads { Leads S.answers service.old service.new }
+        ensures wait { result ≡ Step.Wait → IsReadiness self.new false }
+        ensures over { result ≡ Step.Over → IsReadiness self.new true }
     {
         if !self.is_ready() {
             Step::Wait
-        } else if self.phase == Phase::HalfClosed {
+        } else if self.timer.phase == Phase::HalfClosed {
             self.drain()
         } else if self.connection.wants_write() {
             self.write(service, now)
@@ -213,7 +225,8 @@ impl Peer {
     /// Reads, answers and writes until the socket would block, or up to the maximum number of
     /// steps. Returns whether the connection continues.
     pub(crate) fn turn<S: Service>(&mut self, service: &mut S, now: Instant) -> bool
-        ensures { Leads S.answers service.old service.new }
+        ensures leads { Leads S.answers service.old service.new }
+        ensures over { IsFalse result → IsReadiness self.new true }
     {
         for _ in 0..MAX_STEPS {
             match self.step(service, now) {
@@ -225,25 +238,55 @@ impl Peer {
         true
     }
 
-    /// Checks the time limit of the phase. Returns whether the connection continues.
-    ///
-    /// If the limit is exceeded while a request is incomplete and no output is pending, sends
-    /// status 408 and ends the output.
-    pub(crate) fn is_in_time(&mut self, now: Instant) -> bool {
-        if now.duration_since(self.since) < self.phase.limit() {
-            return true;
+    /// Returns what the time limit of the phase asks for.
+    fn verdict(&self, now: Instant) -> Verdict
+        ensures { IsVerdict self.now result now }
+    {
+        if self.timer.is_in_time(now) {
+            Verdict::Keep
+        } else if self.timer.phase == Phase::Begun && !self.connection.wants_write() {
+            Verdict::Refuse
+        } else {
+            Verdict::Close
         }
-        if self.phase != Phase::Begun || self.connection.wants_write() {
-            return false;
-        }
+    }
+
+    /// Sends status 408 and ends the output. Returns whether the connection continues.
+    fn refuse_request(&mut self, now: Instant) -> bool
+        requires phase { self.old.timer.phase ≡ Phase.Begun }
+        requires output { HasNoOutput self.old.connection }
+        ensures { IsTrue result → IsHalfClosed self.old self.new now }
+    {
         let told = self.stream.write(OVERDUE);
         told.is_ok() && self.shut_output(now) != Step::Over
     }
 
-    /// Writes pending output once, before the connection is closed.
-    pub(crate) fn write_last(&mut self) {
-        if self.connection.wants_write() {
-            let _ = self.connection.write_to(&mut self.stream);
+    /// Checks the time limit of the phase. Returns whether the connection continues.
+    ///
+    /// If the limit is exceeded while a request is incomplete and no output is pending, sends
+    /// status 408 and ends the output.
+    pub(crate) fn is_in_time(&mut self, now: Instant) -> bool
+        ensures in_time { IsTrue result → IsInTime self.new.timer now }
+        ensures limited { IsLimited self.old self.new result now }
+    {
+        match self.verdict(now) {
+            Verdict::Keep => true,
+            Verdict::Close => false,
+            Verdict::Refuse => self.refuse_request(now),
+        }
+    }
+
+    /// Writes pending output once, and closes the connection.
+    pub(crate) fn write_last(self) {
+        let Peer {
+            stream,
+            connection,
+            ..
+        } = self;
+        let mut stream = stream;
+        let mut connection = connection;
+        if connection.wants_write() {
+            let _ = connection.write_to(&mut stream);
         }
     }
 }

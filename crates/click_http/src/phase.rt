@@ -1,5 +1,8 @@
 //! The phases of a connection.
 
+ghost use Rattle.std.specs.Prelude.{◌≡◌, ◌*◌};
+ghost use Rattle.std.specs.Duration.{as_nanos};
+
 use std::time::Duration;
 
 #[derive(Clone, Copy, Debug, PartialEq, Eq)]
@@ -16,9 +19,13 @@ pub(crate) enum Phase {
 }
 
 impl Phase {
+    ghost use Rattle.click_http.specs.Phases.{limit_secs};
+
     /// Returns the maximum duration of the phase. In `Sending` it starts again with each part that
     /// the peer takes.
-    pub(crate) fn limit(self) -> Duration {
+    pub(crate) fn limit(self) -> Duration
+        ensures { as_nanos result ≡ limit_secs self * 1_000_000_000 }
+    {
         match self {
             Phase::Idle => Duration::from_secs(75),
             Phase::Begun | Phase::Sending => Duration::from_secs(10),

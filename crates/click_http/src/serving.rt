@@ -1,8 +1,10 @@
 //! The server loop.
 
-ghost use Rattle.std.specs.Prelude.{List};
+ghost use Rattle.std.specs.Prelude.{◌≡◌, ◌≢◌, List, Some, IfSome, IsTrue, IsFalse};
 ghost use Rattle.http_server.specs.Exchange.{Call, Chain};
+ghost use Rattle.click_http.specs.Ends.{ended_by};
 ghost use Rattle.click_http.specs.Leading.{Leads};
+ghost use Rattle.click_http.specs.Phases.{IsInTime};
 
 use crate::http_listener::HttpListener;
 use crate::peer::Peer;
@@ -26,7 +28,8 @@ pub enum Ended {
 /// Gives the connection in a slot its turn. If it has ended or exceeded its time, the slot is free
 /// then.
 fn serve_place<S: Service>(place: &mut Option<Peer>, service: &mut S, now: Instant)
-    ensures { Leads S.answers service.old service.new }
+    ensures leads { Leads S.answers service.old service.new }
+    ensures in_time { IfSome place.new (λ peer. IsInTime peer.timer now) }
 {
     let Some(peer) = place else {
         return;
@@ -61,10 +64,40 @@ fn serve_round<S: Service, C: Clock>(
 ) -> io::Result<()>
     ensures { Leads S.answers service.old service.new }
 {
-    http_listener.wait()?;
-    serve_places(clock, &mut http_listener.places, service)?;
-    http_listener.accept_connections(alloc, Instant::now(clock)?);
+    http_listener.sockets.wait()?;
+    serve_places(clock, &mut http_listener.sockets.places, service)?;
+    let now = Instant::now(clock)?;
+    http_listener.sockets.accept_connections(alloc, now);
     Ok(())
+}
+
+/// Returns why serving ends after a round, if it does.
+fn end_of(round: io::Result<()>) -> Option<Ended>
+    ensures { result ≡ ended_by round }
+{
+    match round {
+        Ok(()) => None,
+        Err(fault) => Some(Ended::Failed(fault.kind())),
+    }
+}
+
+/// Serves one round, unless `stopped`. Returns why serving ends, if it does.
+fn serve_unless<S: Service, C: Clock>(
+    stopped: bool,
+    clock: &C,
+    alloc: Global,
+    http_listener: &mut HttpListener,
+    service: &mut S,
+) -> Option<Ended>
+    ensures leads { Leads S.answers service.old service.new }
+    ensures stopped { IsTrue stopped → (result ≡ Some Ended.Stopped) × (service.new ≡ service.old) }
+    ensures failed { IsFalse stopped → result ≢ Some Ended.Stopped }
+{
+    if stopped {
+        Some(Ended::Stopped)
+    } else {
+        end_of(serve_round(clock, alloc, http_listener, service))
+    }
 }
 
 /// Serves until `stop` is set or the system fails.
@@ -88,13 +121,11 @@ pub fn serve_until<S: Service, R: Wait, C: Clock>(
 {
     let mut http_listener = http_listener;
     for _ in rt.forever() {
-        if stop.load(Ordering::SeqCst) {
+        let stopped = stop.load(Ordering::SeqCst);
+        let ended = serve_unless(stopped, clock, alloc, &mut http_listener, service);
+        if let Some(ended) = ended {
             close(http_listener);
-            return Ended::Stopped;
-        }
-        if let Err(fault) = serve_round(clock, alloc, &mut http_listener, service) {
-            close(http_listener);
-            return Ended::Failed(fault.kind());
+            return ended;
         }
     }
     unreachable!()
@@ -103,8 +134,8 @@ pub fn serve_until<S: Service, R: Wait, C: Clock>(
 /// Writes pending output of each connection once, and closes all.
 fn close(http_listener: HttpListener) {
     let mut http_listener = http_listener;
-    for place in http_listener.places.iter_mut() {
-        if let Some(peer) = place {
+    for place in http_listener.sockets.places.iter_mut() {
+        if let Some(peer) = place.take() {
             peer.write_last();
         }
     }

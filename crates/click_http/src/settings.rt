@@ -1,7 +1,9 @@
 //! The number of connections, and the limits of each.
 
 ghost use Rattle.std.specs.Prelude.{◌≡◌};
+ghost use Rattle.std.specs.Duration.{as_nanos};
 ghost use Rattle.click_http.specs.Leading.{page_config};
+ghost use Rattle.click_http.specs.Accepting.{tick_nanos};
 
 use http_server::Config;
 use std::time::Duration;
@@ -11,7 +13,9 @@ pub const MAX_CONNECTIONS: usize = 32;
 
 /// Returns the maximum duration of a sleep, after which the server checks `stop` and the time
 /// limits.
-pub(crate) fn tick() -> Duration {
+pub(crate) fn tick() -> Duration
+    ensures { as_nanos result ≡ tick_nanos }
+{
     Duration::from_millis(100)
 }
 

@@ -5,4 +5,4 @@ pub loop-place-init : goal.loop-place-init
 loop-place-init g c = leads_none g.S.Service.answers _
 
 pub loop-place-preserved : goal.loop-place-preserved
-loop-place-preserved g c = leads_then g.S.Service.answers _ _ _ c.loop-place.invariant c.serve_place.ensures
+loop-place-preserved g c = leads_then g.S.Service.answers _ _ _ c.loop-place.invariant c.serve_place.ensures.leads

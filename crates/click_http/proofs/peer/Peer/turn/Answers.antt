@@ -5,10 +5,10 @@ pub loop-init : goal.loop-init
 loop-init g c = leads_none g.S.Service.answers _
 
 pub loop-preserved : goal.loop-preserved
-loop-preserved g c = leads_then g.S.Service.answers _ _ _ c.loop.invariant c.in-More.ensures
+loop-preserved g c = leads_then g.S.Service.answers _ _ _ c.loop.invariant c.in-More.ensures.leads
 
-pub returns-in-Wait : goal.returns-in-Wait
-returns-in-Wait g c = leads_then g.S.Service.answers _ _ _ c.loop.invariant c.step.ensures
+pub returns-in-Wait-clause-leads : goal.returns-in-Wait-clause-leads
+returns-in-Wait-clause-leads g c = leads_then g.S.Service.answers _ _ _ c.loop.invariant c.step.ensures.leads
 
-pub returns-in-Over : goal.returns-in-Over
-returns-in-Over g c = leads_then g.S.Service.answers _ _ _ c.loop.invariant c.step.ensures
+pub returns-in-Over-clause-leads : goal.returns-in-Over-clause-leads
+returns-in-Over-clause-leads g c = leads_then g.S.Service.answers _ _ _ c.loop.invariant c.step.ensures.leads
