@@ -1,3 +1,4 @@
 pub mod BlanksAround
 pub mod ClassNames
 pub mod LastDot
+pub mod NamePlaces

@@ -174,15 +174,15 @@ pub data Turned {T : Type 0} (turn : T → ℕ → Bool → T → Type 0) (done 
 -- The turns of a session that stopped early. Either every command taken up had its turn and was
 -- reported as answered, and the replies are written if there was a command. Or every command except
 -- the last had its turn and was reported as answered, and the last had its turn only.
-abbrev pub BreaksOff : {T : Type 0} → (T → ℕ → Bool → T → Type 0) → (T → ℕ → T → Type 0) → T → T → Course → Type 0
-BreaksOff turn done was is course =
+abbrev pub StopsEarly : {T : Type 0} → (T → ℕ → Bool → T → Type 0) → (T → ℕ → T → Type 0) → T → T → Course → Type 0
+StopsEarly turn done was is course =
     (Turned turn done was (length course.taken) is
     × ((course.taken ≡ []) ⊎ (course.output ≡ greeting ++ replies course.taken course.answers)))
     ⊎ ((n : ℕ) × (mid : _) × (length course.taken ≡ n + 1) × Turned turn done was n mid × turn mid (n + 1) true is)
 
 -- The turns of a session, depending on how it ended. Every command taken up had its turn and was
 -- reported as answered. At `GateClosed` the turn of the next command was then asked for and
--- refused. For a failed write, and for out of memory, `BreaksOff` says how the turns went.
+-- refused. For a failed write, and for out of memory, `StopsEarly` says how the turns went.
 abbrev pub WentThrough : {T : Type 0} → (T → ℕ → Bool → T → Type 0) → (T → ℕ → T → Type 0) → T → T → Result Ended ServeFault → Course → Type 0
 WentThrough turn done was is (Ok ended.Quit) course = Turned turn done was (length course.taken) is
 WentThrough turn done was is (Ok ended.TooLong) course = Turned turn done was (length course.taken) is
@@ -190,8 +190,8 @@ WentThrough turn done was is (Ok ended.EndOfInput) course = Turned turn done was
 WentThrough turn done was is (Ok ended.GateClosed) course =
     (mid : _) × Turned turn done was (length course.taken) mid × turn mid (length course.taken + 1) false is
 WentThrough turn done was is (Err fault.ReadFailed) course = Turned turn done was (length course.taken) is
-WentThrough turn done was is (Err fault.WriteFailed) course = BreaksOff turn done was is course
-WentThrough turn done was is (Err fault.NoMemory) course = BreaksOff turn done was is course
+WentThrough turn done was is (Err fault.WriteFailed) course = StopsEarly turn done was is course
+WentThrough turn done was is (Err fault.NoMemory) course = StopsEarly turn done was is course
 
 -- A session with a port, turns, a source and a sink: `old`, `was`, `had` and `held` before it, and
 -- `new`, `is`, `left` and `holds` after it. It makes at most `reads` reads.

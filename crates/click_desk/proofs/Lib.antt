@@ -6,6 +6,7 @@ pub mod InstalledTexts
 pub mod LawfulHistories
 pub mod MissingViews
 pub mod QueueMoves
+pub mod RefusedSwaps
 pub mod SeatKnowledge
 pub mod SeatedEntries
 pub mod Settlements

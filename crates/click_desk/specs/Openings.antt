@@ -24,7 +24,7 @@ IsOpenFault seats inlets text fault.ViewCount = ⊥
 IsOpenFault seats inlets text fault.NoView = ⊥
 
 -- The first fault of an opening with views. Their number is tested after that of the inlets. If all
--- else is right, the last fault is that a view is not available.
+-- else is right, the last fault is that a view was given no handle that reads the install signal.
 abbrev pub IsViewFault : ℕ → List FeedName → ℕ → List ℕ → OpenFault → Type 0
 IsViewFault seats inlets views text fault.SeatCount = IsOpenFault seats inlets text fault.SeatCount
 IsViewFault seats inlets views text fault.DeviceTwice = IsOpenFault seats inlets text fault.DeviceTwice
@@ -34,7 +34,7 @@ IsViewFault seats inlets views text (fault.Config why) = (views ≤ 16) × IsOpe
 IsViewFault seats inlets views text fault.NoMemory = (views ≤ 16) × IsOpenFault seats inlets text fault.NoMemory
 IsViewFault seats inlets views text fault.NoView = AreFit seats inlets × (views ≤ 16) × IsLegal text [] × (0 < views)
 
--- The fault of creating a view: out of memory, or no more views can be counted.
+-- The fault of creating a view: out of memory, or no handle that reads the install signal.
 abbrev pub IsViewless : OpenFault → Type 0
 IsViewless fault.SeatCount = ⊥
 IsViewless fault.DeviceTwice = ⊥

@@ -26,5 +26,5 @@ pub use entry::Entry;
 pub use logged_router::DeskFault;
 pub use open::{OpenFault, OpenRefused};
 pub use seat::Seat;
-pub use trail::Trail;
+pub use trail::{GhostList, Trail};
 pub use watch::{Notice, View};

@@ -21,7 +21,7 @@ use crate::watch::Notice;
 use click_packet::PacketRoom;
 use click_rings::FeedConsumer;
 use click_router::{
-    Call, CompactReply, FaultKind, Handlers, Install, Router, StepFault, StoredReply, prepare,
+    Call, CompactReply, Handlers, Install, Router, StepFault, StoredReply, prepare_swap,
 };
 use click_views::{ClosedPublisher, Publisher};
 use std::alloc::{AllocError, Global};
@@ -215,7 +215,7 @@ fn swap<T, R: Wait>(
     ensures light { IfOk result (λ reply. holds_memory reply ≡ true → router.new ≡ router.old) }
     ensures quiet { IfOk result (λ reply. sends_packet reply ≡ false) }
 {
-    match prepare(alloc, text) {
+    match prepare_swap(alloc, text) {
         Ok(prepared) => {
             let Ok(install) = Install::of_prepared(alloc, text, &prepared) else {
                 return Err(StepFault::NoMemory);
@@ -226,13 +226,7 @@ fn swap<T, R: Wait>(
             router.install(prepared);
             Ok(StoredReply::of(CompactReply::Done))
         }
-        Err(fault) => match fault.kind {
-            FaultKind::NoMemory => Err(StepFault::NoMemory),
-            _ => match StoredReply::config_refused(alloc, fault) {
-                Ok(reply) => Ok(reply),
-                Err(_) => Err(StepFault::NoMemory),
-            },
-        },
+        Err(outcome) => outcome,
     }
 }
 

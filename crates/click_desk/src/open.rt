@@ -51,7 +51,7 @@ pub enum OpenFault {
     Config(ConfigFault),
     #[error("out of memory")]
     NoMemory,
-    /// The desk cannot count one more view.
+    /// A view was given no handle that reads the install signal.
     #[error("no view")]
     NoView,
 }
@@ -236,12 +236,12 @@ fn view_of<S: Wait, R: Wait + Drop>(
     ensures err { IfErr result IsViewless }
 {
     let Ok(mut shown) = published.view() else {
-        return Err(OpenFault::NoView);
+        return Err(OpenFault::NoMemory);
     };
     if let Some(install_signal) = install_signal {
         match install_signal.listener(rt) {
             Ok(reader) => shown.listen(reader),
-            Err(_) => return Err(OpenFault::NoMemory),
+            Err(_) => return Err(OpenFault::NoView),
         }
     }
     Ok(View { shown })
@@ -394,8 +394,8 @@ impl<'a, T: Drop, R: Wait> Desk<T, &'a R> {
     /// Opens a desk as `open` does, with up to 16 views, each of which shows the opening
     /// configuration.
     ///
-    /// The number of views is tested after that of the inlets. The last fault is that the desk
-    /// cannot count one more view.
+    /// The number of views is tested after that of the inlets. The last fault is that a view was
+    /// given no handle that reads the install signal.
     pub fn open_with_views(
         rt: &'a R,
         alloc: Global,

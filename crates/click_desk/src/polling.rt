@@ -16,7 +16,7 @@ use crate::trail::Trail;
 use click_base::sequence::Sequence;
 use click_packet::{PacketRoom, StoredPacket};
 use click_rings::{FeedConsumer, available_in, draw_from};
-use click_router::{Call, Handlers, Reply, Router, StoredReply};
+use click_router::{Call, DeviceName, Handlers, Reply, Router, StoredReply};
 use std::alloc::{AllocError, Global};
 
 /// Reserves room for `count` packets. Fails with out of memory.
@@ -33,7 +33,7 @@ fn packet_rooms(alloc: Global, count: usize) -> Result<Vec<PacketRoom>, AllocErr
 /// The memory for one copy of a poll: for the device's name and for the packets.
 #[derive(Drop)]
 struct PollRoom {
-    name: Sequence<u8>,
+    name: DeviceName,
     drawn: Vec<StoredPacket>,
 }
 
@@ -42,7 +42,7 @@ impl PollRoom {
         ensures { IfOk result (λ r. (r.name ≡ device.now) × (r.drawn.items ≡ []) × (most ≤ vec_capacity r.drawn)) }
     {
         Ok(PollRoom {
-            name: Sequence::copy_of(alloc, device)?,
+            name: DeviceName::copy_of(alloc, device)?,
             drawn: Vec::with_capacity(alloc, most)?,
         })
     }

@@ -2,9 +2,12 @@
 
 ghost use Rattle.std.specs.Prelude.{◌≡◌, ◌++◌, ◌∷◌, [], true, false, OnOk};
 
-use http_server::Log;
 use std::alloc::{AllocError, Global};
 use std::marker::Model;
+
+/// A list that is ghost state only. It takes no memory, and adding an item does nothing at run
+/// time.
+pub use http_server::Log as GhostList;
 
 /// A list that only grows. Its items are stored at run time if `keeps` is true, and are ghost state
 /// only if it is false.
@@ -13,7 +16,7 @@ use std::marker::Model;
 /// a few bytes at run time, and adding an item does not allocate.
 #[derive(Drop)]
 pub struct Trail<T> {
-    log: Log<T, ()>,
+    log: GhostList<T, ()>,
     keeps: bool,
     kept: Vec<T>,
 }
@@ -35,7 +38,7 @@ impl<T> Trail<T> {
         ensures { (result.keeps ≡ keeps) × (result.items ≡ []) }
     {
         Trail {
-            log: Log::new(),
+            log: GhostList::new(),
             keeps,
             kept: Vec::new(alloc),
         }

@@ -1,6 +1,6 @@
 //! Views of a desk: handler checks that never block.
 
-ghost use Rattle.std.specs.Prelude.{◌≡◌, ℕ, List, map, IfOk};
+ghost use Rattle.std.specs.Prelude.{◌≡◌, ℕ, List, map, IfOk, OnErr};
 ghost use Rattle.click_router.specs.One.{Listing, IsListing, check};
 ghost use Rattle.click_views.specs.Showing.{BeginsWith, IsLast};
 
@@ -66,13 +66,13 @@ impl View {
     }
 
     /// Returns the names of the elements of the last configuration that the view knows of, in flat
-    /// order. Fails with out of memory. Never blocks.
+    /// order. Never blocks. If it fails with out of memory, the view is unchanged.
     pub fn names(&mut self, alloc: Global) -> Result<Vec<Vec<u8>>, AllocError>
         ensures board { self.new.board ≡ self.old.board }
         ensures later { BeginsWith self.new.list self.old.list }
         ensures names { IfOk result (λ names. (text : List ℕ) × (l : Listing) × IsLast self.new.list text × IsListing text l × (map (λ n. n.items) names.items ≡ l.names)) }
+        ensures err { OnErr result (self.new ≡ self.old) }
     {
-        self.shown.refresh();
-        self.shown.install().names(alloc)
+        self.shown.refresh_with(|install| install.names(alloc))
     }
 }

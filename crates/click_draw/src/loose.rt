@@ -12,7 +12,7 @@ const LAYER_SWEEPS: usize = 4;
 
 /// An occupied part of a row, and the node that occupies it if that node may move.
 #[derive(Clone, Copy, Debug, PartialEq, Eq, PartialOrd, Ord)]
-struct Stretch {
+struct Interval {
     left: u64,
     right: u64,
     node: usize,
@@ -33,7 +33,7 @@ fn stretches_of(
     nodes: &[Node],
     lefts: &[u64],
     rows: usize,
-) -> Result<Vec<Vec<Stretch>>, AllocError> {
+) -> Result<Vec<Vec<Interval>>, AllocError> {
     let mut taken = Vec::new(alloc);
     for _ in 0..rows {
         taken.push(Vec::new(alloc))?;
@@ -51,10 +51,10 @@ fn stretches_of(
 }
 
 /// Adds the block to the occupied parts of its rows.
-fn take(taken: &mut [Vec<Stretch>], block: &Block, node: usize) -> Result<(), AllocError> {
+fn take(taken: &mut [Vec<Interval>], block: &Block, node: usize) -> Result<(), AllocError> {
     for row in block.first..=block.last {
         if let Some(row) = taken.get_mut(row) {
-            row.push(Stretch {
+            row.push(Interval {
                 left: block.left,
                 right: block.right,
                 node,
@@ -67,35 +67,35 @@ fn take(taken: &mut [Vec<Stretch>], block: &Block, node: usize) -> Result<(), Al
 /// Returns the occupied part after its node was moved to its preferred place.
 ///
 /// The part stays between `from` and `to`.
-fn moved(stretch: Stretch, state: &State, downward: bool, from: u64, to: u64) -> Stretch {
-    let Some(node) = state.nodes.get(stretch.node) else {
-        return stretch;
+fn moved(interval: Interval, state: &State, downward: bool, from: u64, to: u64) -> Interval {
+    let Some(node) = state.nodes.get(interval.node) else {
+        return interval;
     };
     let links = if downward { &node.above } else { &node.below };
-    let width = stretch.right.saturating_sub(stretch.left);
-    let left = preferred(node, links.as_slice(), stretch.left, state)
+    let width = interval.right.saturating_sub(interval.left);
+    let left = preferred(node, links.as_slice(), interval.left, state)
         .min(to.saturating_sub(width))
         .max(from);
-    Stretch {
+    Interval {
         left,
         right: left.saturating_add(width),
-        node: stretch.node,
+        node: interval.node,
     }
 }
 
 /// Moves the nodes of a row that may move.
-fn line_up(row: &mut [Stretch], state: &mut State, downward: bool) {
+fn line_up(row: &mut [Interval], state: &mut State, downward: bool) {
     let mut from = 0u64;
     for at in 0..row.len() {
         let to = match row.get(at.saturating_add(1)) {
             Some(next) => next.left.saturating_sub(BOX_GAP_PX),
             None => u64::MAX,
         };
-        if let Some(stretch) = row.get_mut(at) {
-            *stretch = moved(*stretch, state, downward, from, to);
-            from = stretch.right.saturating_add(BOX_GAP_PX);
-            if let Some(left) = state.lefts.get_mut(stretch.node) {
-                *left = stretch.left;
+        if let Some(interval) = row.get_mut(at) {
+            *interval = moved(*interval, state, downward, from, to);
+            from = interval.right.saturating_add(BOX_GAP_PX);
+            if let Some(left) = state.lefts.get_mut(interval.node) {
+                *left = interval.left;
             }
         }
     }

@@ -1,10 +1,10 @@
 //! Names of devices. The first few are found by comparison, without an index.
 ghost use Rattle.std.specs.Prelude.{◌≡◌, ◌≤◌, ◌++◌, ◌∷◌, [], take, vec_len, position, IfSome, Some, OnOk, OnErr, if◌then◌else◌};
 ghost use Rattle.std.specs.Str.{bytes_eq};
-ghost use Rattle.click_scopes.specs.Elements.{has_name};
+ghost use Rattle.click_base.specs.NameLists.{has_name};
 ghost use Rattle.click_engine.specs.kept.Tables.{texts};
 
-use click_scopes::Names;
+use click_base::Names;
 use std::alloc::{AllocError, Global};
 use std::marker::Model;
 

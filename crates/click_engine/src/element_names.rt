@@ -3,8 +3,8 @@ ghost use Rattle.std.specs.Prelude.{◌≡◌, ℕ, List, position};
 ghost use Rattle.std.specs.Str.{bytes_eq};
 ghost use Rattle.click_engine.specs.Devices.{element_with};
 
+use click_base::Names;
 use click_ports::Net;
-use click_scopes::Names;
 use std::alloc::{AllocError, Global};
 use std::marker::Model;
 

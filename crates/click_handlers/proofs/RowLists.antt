@@ -139,8 +139,8 @@ never P isnt = (λ h. absurd (no_false h), λ p. absurd (isnt p)) where
   no_false h = cc
 
 -- the handlers of a class, from the borrowed list of its names
-lent : {B : Type 0} (v : B → List ℕ) (class : Class) (xs : List B) (names : List (List ℕ)) → map v xs ≡ names → map (λ n. of_class class (v n)) xs ≡ map (of_class class) names
-lent {B = B} v class xs names e = each xs ∙ ap (map (of_class class)) e where
+mapped_names : {B : Type 0} (v : B → List ℕ) (class : Class) (xs : List B) (names : List (List ℕ)) → map v xs ≡ names → map (λ n. of_class class (v n)) xs ≡ map (of_class class) names
+mapped_names {B = B} v class xs names e = each xs ∙ ap (map (of_class class)) e where
   each : (ys : List B) → map (λ n. of_class class (v n)) ys ≡ map (of_class class) (map v ys)
   each [] = refl
   each (y ∷ ys) = ap (λ l. of_class class (v y) ∷ l) (each ys)
@@ -151,7 +151,7 @@ pub behind_class : {A B : Type 0} (f : A → HandlerName) (v : B → List ℕ) (
     → ((map f rest ≡ names_by names_of (drop i cs) → Whole) × (Whole → map f rest ≡ names_by names_of (drop i cs)))
     → (map f others ≡ names_by names_of (drop (i + 1) cs) → Whole) × (Whole → map f others ≡ names_by names_of (drop (i + 1) cs))
 behind_class f v names_of cs rest others xs i d c Whole lt at named is whole =
-    let split : map f rest ≡ map (of_class c) (names_of c) ++ map f others = is ∙ ap (λ l. l ++ map f others) (lent v c xs (names_of c) named) in
+    let split : map f rest ≡ map (of_class c) (names_of c) ++ map f others = is ∙ ap (λ l. l ++ map f others) (mapped_names v c xs (names_of c) named) in
     let all : names_by names_of (drop i cs) ≡ map (of_class c) (names_of c) ++ names_by names_of (drop (i + 1) cs) = next_class names_of cs i d c lt at in (
       λ e. whole.0 (split ∙ ap (λ l. map (of_class c) (names_of c) ++ l) e ∙ sym all),
       λ w. append_cancel_left (map (of_class c) (names_of c)) (map f others) (names_by names_of (drop (i + 1) cs)) (sym split ∙ whole.1 w ∙ all),
@@ -161,7 +161,7 @@ pub not_behind_class : {A B : Type 0} (f : A → HandlerName) (v : B → List �
     → i < length cs → c ≡ get_or cs i d → map v xs ≡ names_of c → map f rest ≡ names_by names_of (drop i cs)
     → map f rest ≡ map (λ n. of_class c (v n)) xs ++ names_by names_of (drop (i + 1) cs)
 not_behind_class f v names_of cs rest xs i d c lt at named e =
-    e ∙ next_class names_of cs i d c lt at ∙ ap (λ l. l ++ names_by names_of (drop (i + 1) cs)) (sym (lent v c xs (names_of c) named))
+    e ∙ next_class names_of cs i d c lt at ∙ ap (λ l. l ++ names_by names_of (drop (i + 1) cs)) (sym (mapped_names v c xs (names_of c) named))
 
 -- a row with the class and the name is one of the list
 pub found_row : {A : Type 0} (f : A → HandlerName) (rows : List A) (all : List HandlerName) (class : Class) (name : List ℕ) (i : ℕ) (x : A) → map f rows ≡ all

@@ -12,7 +12,7 @@ use crate::packet::{packet_in, packets_in};
 use crate::parts::cut;
 use click_base::sequence::Sequence;
 use click_classes::decimal_number;
-use click_router::Call;
+use click_router::{Call, DeviceName};
 use std::alloc::{AllocError, Global};
 
 /// Parses a line, which has no line end. Returns `None` if no seat, call and reply have this line.
@@ -98,19 +98,21 @@ fn call_of(
         Kind::Swap => Ok(Some(Call::Swap { text: first })),
         Kind::Arrive => match packet_in(alloc, last)? {
             Some(packet) => Ok(Some(Call::Arrive {
-                device: first,
+                device: DeviceName::copy_of(alloc, first.as_slice())?,
                 packet,
             })),
             None => Ok(None),
         },
         Kind::Poll => match packets_in(alloc, last)? {
             Some(taken) => Ok(Some(Call::Poll {
-                device: first,
+                device: DeviceName::copy_of(alloc, first.as_slice())?,
                 taken,
             })),
             None => Ok(None),
         },
         Kind::Round => Ok(Some(Call::Round)),
-        Kind::Transmit => Ok(Some(Call::Transmit { device: first })),
+        Kind::Transmit => Ok(Some(Call::Transmit {
+            device: DeviceName::copy_of(alloc, first.as_slice())?,
+        })),
     }
 }

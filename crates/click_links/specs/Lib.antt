@@ -1,6 +1,9 @@
+pub mod Endings
 pub mod Ends
 pub mod Fates
 pub mod Forwarding
+pub mod LinkCounts
+pub mod SocketFaults
 pub mod Sweeps
 pub mod Turns
 pub mod kept

@@ -9,6 +9,8 @@ use Rattle.click_router.specs.declared.call.Call.{Call}
 use Rattle.click_router.specs.declared.call.Reply.{Reply}
 use Rattle.click_router.specs.declared.call.Reply.TheVariants as reply
 use Rattle.click_desk.specs.Polls.{MayTake}
+use Rattle.click_desk.specs.declared.logged_router.DeskFault.{DeskFault}
+use Rattle.click_desk.specs.declared.logged_router.DeskFault.TheVariants.{HistoryFull}
 use Rattle.click_desk.specs.SeatStates.{SeatState}
 use Rattle.click_links.specs.declared.device.Device.{Device}
 use Rattle.click_links.specs.declared.turns.Tally.{Tally}
@@ -18,6 +20,10 @@ use Rattle.click_links.specs.Ends.{Attempt}
 -- The seat has the same number, desk and feeds.
 abbrev pub SameSeat : SeatState → SeatState → Type 0
 SameSeat old new = (new.desk ≡ old.desk) × (new.number ≡ old.number) × (new.feeds ≡ old.feeds)
+
+-- A full history is reported only if the history that the seat has seen is full.
+abbrev pub IsFullIfReported : SeatState → DeskFault → Type 0
+IsFullIfReported seat fault = fault ≡ HistoryFull → seat.desk.options.room ≡ Some (length seat.seen)
 
 -- The names of these devices.
 abbrev pub names_of : List Device → List (List ℕ)

@@ -1,5 +1,9 @@
 //! The counts of a link, which an operator reads while it runs.
 
+ghost use Rattle.std.specs.Prelude.{◌≡◌};
+ghost use Rattle.std.specs.Option.{option_copied};
+ghost use Rattle.click_links.specs.LinkCounts.{counter_of_fate, counter_of_send, IsReadOf};
+
 use crate::datagram::DatagramOutcome;
 use std::sync::atomic::{AtomicU64, Ordering};
 
@@ -7,14 +11,7 @@ use std::sync::atomic::{AtomicU64, Ordering};
 /// No contract mentions their values.
 #[derive(Drop)]
 pub struct Counts {
-    received: AtomicU64,
-    strangers: AtomicU64,
-    too_long: AtomicU64,
-    no_room: AtomicU64,
-    no_memory: AtomicU64,
-    entered: AtomicU64,
-    sent: AtomicU64,
-    failed: AtomicU64,
+    counters: CounterSet<AtomicU64>,
 }
 
 /// The counts of a link, read one after another.
@@ -38,63 +35,128 @@ pub struct CountSnapshot {
     pub failed: u64,
 }
 
-fn one_more(count: &AtomicU64) {
-    count.fetch_add(1, Ordering::SeqCst);
+/// A counter that threads share.
+trait Counter {
+    ghost use Rattle.std.specs.Prelude.{ℕ};
+
+    /// The numbers that the counter may show when it is read.
+    ghost may_show: { Self → ℕ → Type 0 };
+
+    /// Returns the number that the counter shows.
+    fn show(&self) -> u64
+        ensures { may_show self.now result };
 }
 
-fn read(count: &AtomicU64) -> u64 {
-    count.load(Ordering::SeqCst)
+impl Counter for AtomicU64 {
+    ghost may_show = { λ _ _. Unit {0} };
+
+    fn show(&self) -> u64 {
+        self.load(Ordering::SeqCst)
+    }
+}
+
+/// The counters of a link, one for each count of a `CountSnapshot`.
+///
+/// proof: no contract distinguishes two atomics. The methods of this type are proved for counters of
+/// any type, and so cannot use one counter instead of another.
+#[derive(Drop)]
+struct CounterSet<C> {
+    received: C,
+    strangers: C,
+    too_long: C,
+    no_room: C,
+    no_memory: C,
+    entered: C,
+    sent: C,
+    failed: C,
+}
+
+impl<C> CounterSet<C> {
+    /// Returns the counter of all datagrams, and that of the datagrams that are dropped like this
+    /// one, if it is dropped.
+    fn of_datagram(&self, fate: DatagramOutcome) -> (&C, Option<&C>)
+        ensures all { result.0.now ≡ self.now.received }
+        ensures dropped { option_copied result.1 ≡ counter_of_fate self.now fate }
+    {
+        let dropped = match fate {
+            DatagramOutcome::Enqueued => None,
+            DatagramOutcome::ForeignSender => Some(&self.strangers),
+            DatagramOutcome::TooLong => Some(&self.too_long),
+            DatagramOutcome::FeedFull => Some(&self.no_room),
+            DatagramOutcome::NoMemory => Some(&self.no_memory),
+        };
+        (&self.received, dropped)
+    }
+
+    /// Returns the counter of packets that were sent or lost.
+    fn of_send(&self, sent: bool) -> &C
+        ensures { result.now ≡ counter_of_send self.now sent }
+    {
+        if sent { &self.sent } else { &self.failed }
+    }
+}
+
+impl<C: Counter> CounterSet<C> {
+    /// Reads the counters one after another.
+    fn snapshot(&self) -> CountSnapshot
+        ensures { IsReadOf C.may_show self.now result }
+    {
+        CountSnapshot {
+            received: self.received.show(),
+            strangers: self.strangers.show(),
+            too_long: self.too_long.show(),
+            no_room: self.no_room.show(),
+            no_memory: self.no_memory.show(),
+            entered: self.entered.show(),
+            sent: self.sent.show(),
+            failed: self.failed.show(),
+        }
+    }
+}
+
+fn one_more(count: &AtomicU64) {
+    count.fetch_add(1, Ordering::SeqCst);
 }
 
 impl Counts {
     /// Returns counts of zero.
     pub fn new() -> Counts {
         Counts {
-            received: AtomicU64::new(0),
-            strangers: AtomicU64::new(0),
-            too_long: AtomicU64::new(0),
-            no_room: AtomicU64::new(0),
-            no_memory: AtomicU64::new(0),
-            entered: AtomicU64::new(0),
-            sent: AtomicU64::new(0),
-            failed: AtomicU64::new(0),
+            counters: CounterSet {
+                received: AtomicU64::new(0),
+                strangers: AtomicU64::new(0),
+                too_long: AtomicU64::new(0),
+                no_room: AtomicU64::new(0),
+                no_memory: AtomicU64::new(0),
+                entered: AtomicU64::new(0),
+                sent: AtomicU64::new(0),
+                failed: AtomicU64::new(0),
+            },
         }
     }
 
     /// Returns what was counted so far.
     pub fn read(&self) -> CountSnapshot {
-        CountSnapshot {
-            received: read(&self.received),
-            strangers: read(&self.strangers),
-            too_long: read(&self.too_long),
-            no_room: read(&self.no_room),
-            no_memory: read(&self.no_memory),
-            entered: read(&self.entered),
-            sent: read(&self.sent),
-            failed: read(&self.failed),
-        }
+        self.counters.snapshot()
     }
 
     /// Counts a datagram with this fate.
     pub(crate) fn came(&self, fate: DatagramOutcome) {
-        one_more(&self.received);
-        match fate {
-            DatagramOutcome::Enqueued => {}
-            DatagramOutcome::ForeignSender => one_more(&self.strangers),
-            DatagramOutcome::TooLong => one_more(&self.too_long),
-            DatagramOutcome::FeedFull => one_more(&self.no_room),
-            DatagramOutcome::NoMemory => one_more(&self.no_memory),
+        let (received, dropped) = self.counters.of_datagram(fate);
+        one_more(received);
+        if let Some(count) = dropped {
+            one_more(count);
         }
     }
 
     /// Counts `count` packets of the feed that entered.
     pub(crate) fn enter(&self, count: u64) {
-        self.entered.fetch_add(count, Ordering::SeqCst);
+        self.counters.entered.fetch_add(count, Ordering::SeqCst);
     }
 
     /// Counts a packet that was sent or lost.
     pub(crate) fn tried(&self, sent: bool) {
-        one_more(if sent { &self.sent } else { &self.failed });
+        one_more(self.counters.of_send(sent));
     }
 }
 

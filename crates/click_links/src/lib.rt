@@ -5,10 +5,12 @@
 #![tactic(auto)]
 
 mod counts;
+mod cycles;
 mod datagram;
 mod device;
 mod dropped;
 mod forwarder;
+mod forwarder_thread;
 pub mod laws;
 mod link;
 mod links;

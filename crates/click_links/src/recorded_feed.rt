@@ -3,9 +3,9 @@
 ghost use Rattle.std.specs.Prelude.{◌≡◌, ◌<◌, ◌++◌, ◌∷◌, [], length, true, if◌then◌else◌};
 ghost use Rattle.click_links.specs.Ends.{offer};
 
+use click_desk::GhostList;
 use click_packet::{Packet, PacketRoom};
 use click_rings::Feed;
-use http_server::Log;
 use std::marker::Model;
 
 /// A feed, with the list of packets that it was offered and whether it took each. The list is ghost
@@ -13,7 +13,7 @@ use std::marker::Model;
 #[derive(Drop)]
 pub struct RecordedFeed {
     feed: Feed,
-    asked: Log<Packet, bool>,
+    asked: GhostList<Packet, bool>,
 }
 
 impl Model for RecordedFeed {
@@ -32,7 +32,7 @@ impl RecordedFeed {
     {
         RecordedFeed {
             feed,
-            asked: Log::new(),
+            asked: GhostList::new(),
         }
     }
 

@@ -12,33 +12,20 @@ use crate::counts::Counts;
 use crate::device::Device;
 use crate::dropped::Dropped;
 use crate::forwarder::{Forwarder, RunStart};
+use crate::forwarder_thread::run_forwarder;
 use crate::link::{Inbound, Outbound};
-use crate::pause::Pause;
 use crate::receiver::{Ended, ReceiverReport, receive_with};
 use crate::recorded_feed::RecordedFeed;
-use crate::sharing::{InlineForwarder, Shared, SharedSweep, Sweeper};
+use crate::sharing::{InlineForwarder, Shared, Sweeper};
 use click_base::sequence::Sequence;
 use click_desk::{Desk, DeskFault, Seat};
 use click_router::Handlers;
 use std::alloc::Global;
 use std::marker::Brand;
 use std::sync::Wait;
-use std::sync::atomic::{AtomicBool, Ordering};
+use std::sync::atomic::AtomicBool;
 use std::thread;
 use std::thread::Threads;
-
-/// The maximum number of sweeps of a forwarder after the run is over.
-///
-/// They suffice to empty a feed of 4,096 places twice. Without a maximum, a configuration that
-/// emits packets of its own would keep the forwarder from ending.
-const MAX_FINAL_SWEEPS: u32 = 256;
-
-/// The maximum duration of the forwarder's first sleep, in microseconds.
-const MIN_SLEEP_US: u64 = 200;
-
-/// The maximum duration of a sleep of the forwarder, in microseconds. A receiver wakes it earlier;
-/// other threads that give a device packets do not.
-const MAX_SLEEP_US: u64 = 20_000;
 
 /// A receiver. It has its device, the device's feed, the receiving end of the link, and its outcome
 /// if it has run.
@@ -154,59 +141,6 @@ fn run_receivers<
     );
     all.push_reserved(heard);
     all
-}
-
-/// What a forwarder does after a sweep.
-enum AfterSweep {
-    Sweep,
-    Sleep,
-    End,
-}
-
-impl AfterSweep {
-    /// Returns what follows a sweep. `made`: the sweep, or `None` if a receiver holds the
-    /// forwarder. `last`: the run is over, except for what is left to send. `spent`: no more sweeps
-    /// are allowed.
-    fn after(made: &Option<SharedSweep>, last: bool, spent: bool) -> AfterSweep {
-        match made {
-            None => AfterSweep::Sleep,
-            Some(made) => match &made.swept {
-                Err(DeskFault::HistoryFull) => AfterSweep::End,
-                Ok(_) if !made.is_finished() && !spent => AfterSweep::Sweep,
-                _ if last => AfterSweep::End,
-                _ => AfterSweep::Sleep,
-            },
-        }
-    }
-}
-
-/// Sweeps until the run is over and no work is left. Returns the fault for which it ended, if any.
-/// After the run is over it makes at most `MAX_FINAL_SWEEPS` sweeps.
-///
-/// If the history is full it ends at once, and stops the receivers. It sleeps after a sweep that
-/// found no work or failed with out of memory, and while a receiver sweeps. A sweep that fails with
-/// out of memory ends it if the run is over.
-fn run_forwarder<T: Handlers, S: Outbound, R: Wait, B: RunStart>(
-    sweeper: &Sweeper<'_, '_, T, S, R, B>,
-    stop: &AtomicBool,
-) -> Option<DeskFault> {
-    let mut pause = Pause::between(MIN_SLEEP_US, MAX_SLEEP_US);
-    let mut left = MAX_FINAL_SWEEPS;
-    for _ in sweeper.rt.forever() {
-        // This is read before the sweep, so that the packets that came last still go out.
-        let last = sweeper.shared.are_over(stop);
-        left = left.saturating_sub(u32::from(last));
-        let made = sweeper.sweep();
-        match AfterSweep::after(&made, last, left == 0) {
-            AfterSweep::Sweep => pause.begin_anew(),
-            AfterSweep::Sleep => sweeper.sleep(&mut pause),
-            AfterSweep::End => {
-                stop.store(true, Ordering::SeqCst);
-                return made?.swept.err();
-            }
-        }
-    }
-    unreachable!()
 }
 
 /// Runs the receivers in parallel with the forwarder. Returns the fault for which the forwarder

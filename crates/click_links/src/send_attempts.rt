@@ -4,8 +4,8 @@ ghost use Rattle.std.specs.Prelude.{◌≡◌, ◌++◌, ◌∷◌, []};
 ghost use Rattle.click_links.specs.Ends.{attempt};
 
 use click_base::sequence::Sequence;
+use click_desk::GhostList;
 use click_packet::StoredPacket;
-use http_server::Log;
 use std::marker::Model;
 
 /// The list of packets whose sending was attempted, each with its device and whether it was sent.
@@ -13,7 +13,7 @@ use std::marker::Model;
 #[derive(Drop)]
 pub(crate) struct SendAttempts {
     // For each packet, a list with one item: its device, and whether it was sent.
-    log: Log<StoredPacket, Log<Sequence<u8>, bool>>,
+    log: GhostList<StoredPacket, GhostList<Sequence<u8>, bool>>,
 }
 
 impl Model for SendAttempts {
@@ -30,14 +30,16 @@ impl SendAttempts {
     pub(crate) fn new() -> SendAttempts
         ensures { result ≡ [] }
     {
-        SendAttempts { log: Log::new() }
+        SendAttempts {
+            log: GhostList::new(),
+        }
     }
 
     /// Appends a packet with its device, and whether it was sent.
     pub(crate) fn add(&mut self, device: &Sequence<u8>, packet: &StoredPacket, sent: bool)
         ensures { self.new ≡ self.old ++ attempt device.now packet.now sent ∷ [] }
     {
-        let one = Log::new().and(device, &sent);
+        let one = GhostList::new().and(device, &sent);
         self.log = self.log.and(packet, &one);
     }
 }

@@ -4,9 +4,11 @@
 //! for. The forwarder thread sweeps as long as there is work, and sleeps otherwise. A receiver
 //! wakes it after a packet, or sweeps itself if packets come far apart.
 
-ghost use Rattle.std.specs.Prelude.{◌≡◌, Some};
+ghost use Rattle.std.specs.Prelude.{◌≡◌, ◌↔◌, IsTrue, Some};
+ghost use Rattle.click_links.specs.Endings.{LeavesNoWork};
 ghost use Rattle.click_links.specs.Turns.{names_of};
 
+use crate::cycles::is_over;
 use crate::device::Device;
 use crate::forwarder::{Forwarder, RunStart};
 use crate::link::{Inbound, Outbound};
@@ -65,7 +67,7 @@ impl<T, S: Outbound, B: RunStart> Shared<T, S, B> {
 
     /// Returns whether a stop was requested and all receivers have ended.
     pub(crate) fn are_over(&self, stop: &AtomicBool) -> bool {
-        stop.load(Ordering::SeqCst) && self.ended.load(Ordering::SeqCst)
+        is_over(stop, &self.ended)
     }
 
     /// Records that all receivers have ended, and wakes the forwarder thread.
@@ -110,7 +112,9 @@ pub(crate) struct SharedSweep {
 
 impl SharedSweep {
     /// Returns whether the sweep found no work, and no other thread has work to hand over.
-    pub(crate) fn is_finished(&self) -> bool {
+    pub(crate) fn is_finished(&self) -> bool
+        ensures { IsTrue result ↔ LeavesNoWork self.now }
+    {
         match &self.swept {
             Ok(swept) => swept.is_idle() && !self.contended,
             Err(_) => false,

@@ -1,8 +1,8 @@
 //! Sweeps over the devices of all links.
 
-ghost use Rattle.std.specs.Prelude.{◌≡◌, ◌↔◌, ◌<◌, ◌++◌, ◌∷◌, [], ℕ, IsTrue, IfOk, OnErr};
+ghost use Rattle.std.specs.Prelude.{◌≡◌, ◌↔◌, ◌<◌, ◌++◌, ◌∷◌, [], ℕ, IsTrue, IfOk, IfErr, OnErr};
 ghost use Rattle.std.specs.List.{All};
-ghost use Rattle.click_links.specs.Turns.{SameSeat, IsIdleTurn, names_of};
+ghost use Rattle.click_links.specs.Turns.{SameSeat, IsIdleTurn, IsFullIfReported, names_of};
 ghost use Rattle.click_links.specs.Forwarding.{Forwards};
 ghost use Rattle.click_links.specs.Sweeps.{EachTurn, Rounds, RoundsUntil, IsSweep, count_worked, round};
 ghost use Rattle.click_router.specs.declared.call.Reply.{Reply};
@@ -51,6 +51,7 @@ fn forward_each<T: Handlers, S: Outbound, R: Wait>(
     ensures same { SameSeat seat.old seat.new }
     ensures ok { IfOk result (λ turns. EachTurn (names_of devices.now) seat.old.feeds seat.old.calls seat.new.calls (S.attempts sender.old) (S.attempts sender.new) turns.items) }
     ensures forwards { Forwards (names_of devices.now) seat.old.calls seat.new.calls (S.attempts sender.old) (S.attempts sender.new) }
+    ensures full { IfErr result (IsFullIfReported seat.new) }
 {
     let Ok(mut turns) = Vec::with_capacity(alloc, devices.len()) else {
         return Err(DeskFault::NoMemory);
@@ -72,6 +73,7 @@ fn round_once<T: Handlers, R: Wait>(
     ensures same { SameSeat seat.old seat.new }
     ensures ok { IfOk result (λ worked. (reply : Reply) × (seat.new.calls ≡ seat.old.calls ++ round reply ∷ []) × (IsTrue worked ↔ (0 < count_worked reply))) }
     ensures err { OnErr result (seat.new.calls ≡ seat.old.calls) }
+    ensures full { IfErr result (IsFullIfReported seat.new) }
 {
     Ok(desk.round(rt, seat)? > 0)
 }
@@ -87,6 +89,7 @@ fn round_on<T: Handlers, R: Wait>(
     ensures same { SameSeat seat.old seat.new }
     ensures ok { IfOk result (λ r. RoundsUntil seat.old.calls seat.new.calls r.0 r.1) }
     ensures err { OnErr result ((count : ℕ) × Rounds seat.old.calls seat.new.calls count) }
+    ensures full { IfErr result (IsFullIfReported seat.new) }
 {
     for count in 0..MAX_ROUNDS {
         match round_once(rt, desk, seat) {
@@ -115,6 +118,7 @@ pub fn sweep<T: Handlers, S: Outbound, R: Wait>(
     ensures same { SameSeat seat.old seat.new }
     ensures ok { IfOk result (λ s. IsSweep (names_of devices.now) seat.old.feeds seat.old.calls seat.new.calls (S.attempts sender.old) (S.attempts sender.new) s.turns.items s.rounds s.more) }
     ensures forwards { Forwards (names_of devices.now) seat.old.calls seat.new.calls (S.attempts sender.old) (S.attempts sender.new) }
+    ensures full { IfErr result (IsFullIfReported seat.new) }
 {
     let turns = forward_each(rt, alloc, desk, seat, devices, sender)?;
     let (rounds, more) = round_on(rt, desk, seat)?;

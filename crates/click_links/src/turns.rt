@@ -6,14 +6,14 @@ ghost use Rattle.click_router.specs.declared.call.Reply.{Reply};
 ghost use Rattle.click_router.specs.Polls.{poll, transmit as transmits};
 ghost use Rattle.click_desk.specs.Polls.{MayTake};
 ghost use Rattle.click_links.specs.Ends.{attempt};
-ghost use Rattle.click_links.specs.Turns.{SameSeat, GivesNone, Sends, Breaks, SendsUntil, IsTurn, IsBroken, IsIdleTurn, tallied, count_entered};
+ghost use Rattle.click_links.specs.Turns.{SameSeat, GivesNone, Sends, Breaks, SendsUntil, IsTurn, IsBroken, IsIdleTurn, IsFullIfReported, tallied, count_entered};
 ghost use Rattle.click_links.specs.Forwarding.{Forwards};
 
 use crate::device::Device;
 use crate::link::Outbound;
 use click_base::sequence::Sequence;
 use click_desk::{Desk, DeskFault, Seat};
-use click_router::{Call, CompactReply, Handlers, Reply, StoredReply};
+use click_router::{Call, CompactReply, DeviceName, Handlers, Reply, StoredReply};
 use std::alloc::Global;
 use std::sync::Wait;
 
@@ -85,6 +85,7 @@ fn poll_feed<T: Handlers, R: Wait>(
     ensures ok { IfOk result (λ entered. (taken : List APacket) × (polled : Reply) × MayTake seat.new.feeds device.now.name 32 taken polled
         × (seat.new.calls ≡ seat.old.calls ++ (poll device.now.name taken, polled) ∷ []) × (entered ≡ count_entered polled)) }
     ensures err { OnErr result (seat.new.calls ≡ seat.old.calls) }
+    ensures full { IfErr result (IsFullIfReported seat.new) }
 {
     let reply = desk.poll(rt, seat, device.name.as_slice(), MAX_POLLED)?;
     let entered = entered_of(&reply);
@@ -104,11 +105,11 @@ fn transmit<T: Handlers, R: Wait>(
     ensures same { SameSeat seat.old seat.new }
     ensures ok { IfOk result (λ reply. seat.new.calls ≡ seat.old.calls ++ (transmits device.now, reply) ∷ []) }
     ensures err { OnErr result (seat.new.calls ≡ seat.old.calls) }
+    ensures full { IfErr result (IsFullIfReported seat.new) }
 {
-    let Ok(name) = Vec::from_slice(alloc, device.as_slice()) else {
+    let Ok(device) = DeviceName::copy_of(alloc, device.as_slice()) else {
         return Err(DeskFault::NoMemory);
     };
-    let device = Sequence::of(name);
     desk.call_stored(rt, seat, Call::Transmit { device })
 }
 
@@ -128,6 +129,7 @@ fn send_one<T: Handlers, S: Outbound, R: Wait>(
         ((reply : Reply) × GivesNone reply × (seat.new.calls ≡ seat.old.calls ++ (transmits device.now.name, reply) ∷ []) × (S.attempts sender.new ≡ S.attempts sender.old))
         (λ sent. (packet : APacket) × Sends device.now.name seat.old.calls seat.new.calls (S.attempts sender.old) (S.attempts sender.new) (attempt device.now.name packet sent ∷ []))) }
     ensures err { OnErr result ((seat.new.calls ≡ seat.old.calls) × (S.attempts sender.new ≡ S.attempts sender.old)) }
+    ensures full { IfErr result (IsFullIfReported seat.new) }
 {
     let reply = transmit(rt, alloc, desk, seat, &device.name)?;
     match reply.compact() {
@@ -154,6 +156,7 @@ fn send_all<T: Handlers, S: Outbound, R: Wait>(
     ensures same { SameSeat seat.old seat.new }
     ensures ok { IfOk result (λ r. SendsUntil device.now.name seat.old.calls seat.new.calls (S.attempts sender.old) (S.attempts sender.new) r.0 r.1) }
     ensures err { OnErr result (Breaks device.now.name seat.old.calls seat.new.calls (S.attempts sender.old) (S.attempts sender.new)) }
+    ensures full { IfErr result (IsFullIfReported seat.new) }
 {
     let mut tally = Tally { sent: 0, lost: 0 };
     for _ in 0..MAX_SENT {
@@ -183,6 +186,7 @@ pub fn forward<T: Handlers, S: Outbound, R: Wait>(
     ensures ok { IfOk result (λ turn. IsTurn device.now.name seat.old.feeds seat.old.calls seat.new.calls (S.attempts sender.old) (S.attempts sender.new) turn) }
     ensures err { OnErr result (IsBroken device.now.name seat.old.feeds seat.old.calls seat.new.calls (S.attempts sender.old) (S.attempts sender.new)) }
     ensures forwards { Forwards (device.now.name ∷ []) seat.old.calls seat.new.calls (S.attempts sender.old) (S.attempts sender.new) }
+    ensures full { IfErr result (IsFullIfReported seat.new) }
 {
     let entered = poll_feed(rt, desk, seat, device)?;
     let (tally, more) = send_all(rt, alloc, desk, seat, device, sender)?;

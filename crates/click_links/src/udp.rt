@@ -1,14 +1,15 @@
 //! Links over UDP.
 
-ghost use Rattle.std.specs.Prelude.{◌≡◌, ◌≤◌, ◌↔◌, vec_len, ◌++◌, ◌∷◌, [], map, option_map, take, true, false, None, IfOk, OnOk, OnErr, if◌then◌else◌};
+ghost use Rattle.std.specs.Prelude.{◌≡◌, ◌≤◌, ◌↔◌, vec_len, ◌++◌, ◌∷◌, [], map, option_map, take, true, false, None, IsSome, IsTrue, IfOk, OnOk, OnErr, if◌then◌else◌};
 ghost use Rattle.click_links.specs.Ends.{attempt, line_of as line_for};
+ghost use Rattle.click_links.specs.SocketFaults.{IsTemporary, IsTemporaryKind, IsTemporaryNumber};
 
 use crate::link::{Inbound, LinkFailed, Outbound};
 use crate::send_attempts::SendAttempts;
 use click_base::sequence::Sequence;
+use click_desk::GhostList;
 use click_packet::StoredPacket;
-use http_server::Log;
-use libc::net::{POLLIN, poll};
+use libc::net::{POLLIN, POLLOUT, poll};
 use libc::types::pollfd;
 use std::alloc::Global;
 use std::io;
@@ -16,22 +17,82 @@ use std::io::ErrorKind;
 use std::marker::Model;
 use std::net::{Net, SocketAddr, UdpSocket};
 use std::os::fd::AsRawFd;
+use std::sync::atomic::{AtomicBool, Ordering};
 use std::time::Duration;
 
 /// The size of the buffer for a datagram, in bytes. No datagram has as many, so none is cut.
 const RECEIVE_BUFFER_BYTES: usize = 65536;
 
-/// The system's error numbers of temporary faults that have no name in `ErrorKind`.
-///
-/// Those of the system are out of memory (12) and no buffer space (105). Those of the network are a
-/// protocol error (71), a message that is too long (90), a protocol that is not available (92), and
-/// a host that is down (112).
-const TRANSIENT_ERRNOS: [i32; 6] = [12, 71, 90, 92, 105, 112];
+/// A socket, and the time limits of its reads and of its sends in milliseconds, if they were set.
+#[derive(Drop)]
+struct TimedSocket {
+    socket: UdpSocket,
+    read_limit: Option<u64>,
+    send_limit: Option<u64>,
+}
 
-/// A socket, the address that it was asked for, its peer, and the datagram that was read last.
+impl TimedSocket {
+    /// Returns the socket, without time limits.
+    fn new(socket: UdpSocket) -> TimedSocket
+        ensures { (result.read_limit ≡ None) × (result.send_limit ≡ None) }
+    {
+        TimedSocket {
+            socket,
+            read_limit: None,
+            send_limit: None,
+        }
+    }
+
+    /// Sets the time limit of reads.
+    fn limit_reads(&mut self, millis: u64) -> io::Result<()>
+        ensures reads { OnOk result (self.new.read_limit ≡ Some millis) }
+        ensures sends { self.new.send_limit ≡ self.old.send_limit }
+    {
+        self.socket
+            .set_read_timeout(Some(Duration::from_millis(millis)))?;
+        self.read_limit = Some(millis);
+        Ok(())
+    }
+
+    /// Sets the time limit of sends.
+    fn limit_sends(&mut self, millis: u64) -> io::Result<()>
+        ensures sends { OnOk result (self.new.send_limit ≡ Some millis) }
+        ensures reads { self.new.read_limit ≡ self.old.read_limit }
+    {
+        self.socket
+            .set_write_timeout(Some(Duration::from_millis(millis)))?;
+        self.send_limit = Some(millis);
+        Ok(())
+    }
+
+    /// Returns another handle of the same socket, which has the same time limits.
+    fn try_clone(&self) -> io::Result<TimedSocket>
+        ensures { IfOk result (λ s. (s.read_limit ≡ self.now.read_limit) × (s.send_limit ≡ self.now.send_limit)) }
+    {
+        Ok(TimedSocket {
+            socket: self.socket.try_clone()?,
+            read_limit: self.read_limit,
+            send_limit: self.send_limit,
+        })
+    }
+}
+
+/// Opens a socket at the address. Neither a read nor a send blocks for longer than `millis`
+/// milliseconds.
+fn open_socket<R: Net>(net: &R, address: SocketAddr, millis: u64) -> io::Result<TimedSocket>
+    ensures { IfOk result (λ s. (s.read_limit ≡ Some millis) × (s.send_limit ≡ Some millis)) }
+{
+    let mut socket = TimedSocket::new(UdpSocket::bind(net, address)?);
+    socket.limit_reads(millis)?;
+    socket.limit_sends(millis)?;
+    Ok(socket)
+}
+
+/// A socket, the address that it was asked for, its peer, and the datagram that was read last. Its
+/// reads have a time limit.
 #[derive(Drop)]
 struct DatagramSocket {
-    socket: UdpSocket,
+    socket: TimedSocket,
     here: SocketAddr,
     peer: SocketAddr,
     buffer: Vec<u8>,
@@ -40,6 +101,7 @@ struct DatagramSocket {
     known: bool,
     ghost fits: { len ≤ vec_len buffer },
     ghost named: { (known ≡ true) ↔ (from ≡ peer) },
+    ghost limited: { IsSome socket.read_limit },
 }
 
 /// Blocks until a datagram comes or the socket's timeout is over.
@@ -48,6 +110,7 @@ fn receive_datagram(datagram_socket: &mut DatagramSocket) -> io::Result<()>
 {
     let (len, from) = datagram_socket
         .socket
+        .socket
         .recv_from(datagram_socket.buffer.as_mut_slice())?;
     datagram_socket.len = len;
     datagram_socket.from = from;
@@ -55,11 +118,11 @@ fn receive_datagram(datagram_socket: &mut DatagramSocket) -> io::Result<()>
     Ok(())
 }
 
-/// Returns whether a datagram or an error waits at the socket. Never blocks.
-fn is_ready(socket: &UdpSocket) -> bool {
+/// Returns whether one of these events, or an error, waits at the socket. Never blocks.
+fn is_ready(socket: &UdpSocket, events: i16) -> bool {
     let mut asked = [pollfd {
         fd: socket.as_raw_fd(),
-        events: POLLIN,
+        events,
         revents: 0,
     }];
     poll(&mut asked, 0) != 0
@@ -75,7 +138,7 @@ fn payload(datagram_socket: &DatagramSocket) -> &[u8]
 #[derive(Drop)]
 pub struct UdpIn {
     datagram_socket: DatagramSocket,
-    came: Log<DatagramSocket, ()>,
+    came: GhostList<DatagramSocket, ()>,
 }
 
 impl Model for UdpIn {
@@ -121,32 +184,53 @@ impl Inbound for UdpIn {
     }
 
     fn has_more(&self) -> bool {
-        is_ready(&self.datagram_socket.socket)
+        is_ready(&self.datagram_socket.socket.socket, POLLIN)
     }
 }
 
 /// The sending side of one link over UDP. It has its device, its socket, the address that the
-/// socket was asked for, and its peer.
+/// socket was asked for, and its peer. By its invariant, sends have a time limit.
 #[derive(Drop)]
 pub struct UdpLine {
     device: Sequence<u8>,
-    socket: UdpSocket,
+    socket: TimedSocket,
     here: SocketAddr,
     peer: SocketAddr,
+    /// Whether the last send ended with the timeout, because the send buffer was full.
+    is_blocked: AtomicBool,
 }
 
 impl Model for UdpLine {
+    ghost use Rattle.std.specs.Prelude.{IsSome};
     ghost use Rattle.click_links.specs.Ends.{Line};
 
     ghost Value = { Line };
 
     ghost view = { λ l. record { device = l.device; here = l.here; there = l.peer } };
+
+    ghost invariant = { λ l. IsSome l.socket.send_limit };
 }
 
 impl UdpLine {
     /// Sends the bytes to the peer as one datagram. Returns whether all of them were sent.
+    ///
+    /// Blocks while the send buffer is full, up to the socket's timeout. After a timeout, sends fail
+    /// at once until the buffer has room, because the packets of all other links wait meanwhile.
     fn send(&self, bytes: &[u8]) -> bool {
-        matches!(self.socket.send_to(bytes, self.peer), Ok(len) if len == bytes.len())
+        if self.is_blocked.load(Ordering::Relaxed) && !is_ready(&self.socket.socket, POLLOUT) {
+            return false;
+        }
+        match self.socket.socket.send_to(bytes, self.peer) {
+            Ok(len) => {
+                self.is_blocked.store(false, Ordering::Relaxed);
+                len == bytes.len()
+            }
+            Err(fault) => {
+                let is_full = matches!(fault.kind(), ErrorKind::WouldBlock | ErrorKind::TimedOut);
+                self.is_blocked.store(is_full, Ordering::Relaxed);
+                false
+            }
+        }
     }
 }
 
@@ -212,25 +296,48 @@ impl Outbound for UdpOut {
     }
 }
 
-/// Returns whether a fault of a socket is temporary, so that the link has not failed.
+/// Returns whether faults of this kind are temporary.
 ///
-/// Such faults are: the timeout is over, the peer does not listen or cannot be reached, or the
-/// system is short of memory or buffers. Each is reported once, or after a wait.
-fn is_passing(fault: &io::Error) -> bool {
-    match fault.kind() {
+/// They are: the time limit is over, a signal interrupted the call, the peer does not listen, or
+/// the network does not reach it.
+fn is_temporary_kind(kind: ErrorKind) -> bool
+    ensures { IsTrue result ↔ IsTemporaryKind kind }
+{
+    matches!(
+        kind,
         ErrorKind::WouldBlock
-        | ErrorKind::TimedOut
-        | ErrorKind::Interrupted
-        | ErrorKind::ConnectionRefused
-        | ErrorKind::ConnectionReset
-        | ErrorKind::HostUnreachable
-        | ErrorKind::NetworkUnreachable
-        | ErrorKind::NetworkDown => true,
-        _ => match fault.raw_os_error() {
-            Some(number) => TRANSIENT_ERRNOS.contains(&number),
+            | ErrorKind::TimedOut
+            | ErrorKind::Interrupted
+            | ErrorKind::ConnectionRefused
+            | ErrorKind::ConnectionReset
+            | ErrorKind::HostUnreachable
+            | ErrorKind::NetworkUnreachable
+            | ErrorKind::NetworkDown
+    )
+}
+
+/// Returns whether this is the system's error number of a temporary fault that has no name in
+/// `ErrorKind`.
+///
+/// Those of the system are out of memory (12) and no buffer space (105). Those of the network are a
+/// protocol error (71), a message that is too long (90), a protocol that is not available (92), and
+/// a host that is down (112).
+fn is_temporary_number(number: i32) -> bool
+    ensures { IsTrue result ↔ IsTemporaryNumber number }
+{
+    matches!(number, 12 | 71 | 90 | 92 | 105 | 112)
+}
+
+/// Returns whether a fault of a socket is temporary, so that the link has not failed. Such a fault
+/// is reported once, or after a wait.
+fn is_passing(fault: &io::Error) -> bool
+    ensures { IsTrue result ↔ IsTemporary fault.now }
+{
+    is_temporary_kind(fault.kind())
+        || match fault.raw_os_error() {
+            Some(number) => is_temporary_number(number),
             None => false,
-        },
-    }
+        }
 }
 
 /// Opens a link of the device over UDP. Returns its receiving end, and the line over which its
@@ -251,15 +358,13 @@ pub fn open_udp<R: Net>(
     ensures end { IfOk result (λ ends. (ends.0.here ≡ address) × (ends.0.there ≡ peer)) }
     ensures line { IfOk result (λ ends. ends.1 ≡ record { device = device; here = address; there = peer }) }
 {
-    let socket = UdpSocket::bind(net, address)?;
-    let longest = Some(Duration::from_millis(millis));
-    socket.set_read_timeout(longest)?;
-    socket.set_write_timeout(longest)?;
+    let socket = open_socket(net, address, millis)?;
     let line = UdpLine {
         device,
         socket: socket.try_clone()?,
         here: address,
         peer,
+        is_blocked: AtomicBool::new(false),
     };
     let datagram_socket = DatagramSocket {
         socket,
@@ -270,7 +375,7 @@ pub fn open_udp<R: Net>(
         from: peer,
         known: true,
     };
-    let came = Log::new();
+    let came = GhostList::new();
     Ok((
         UdpIn {
             datagram_socket,

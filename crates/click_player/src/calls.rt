@@ -8,7 +8,7 @@ use click_base::sequence::Sequence;
 use click_desk::DeskFault;
 use click_lines::{HexFault, packet_of, push_words, reply_text};
 use click_packet::StoredPacket;
-use click_router::{Call, Reply};
+use click_router::{Call, DeviceName, Reply};
 use std::alloc::{AllocError, Global};
 
 /// Returns the call of these words, never a Poll.
@@ -37,13 +37,13 @@ pub fn call_of(alloc: Global, words: &[u8]) -> Result<Call, Trouble>
         b"arrive" => {
             let (device, digits) = cut(rest, b' ');
             Ok(Call::Arrive {
-                device: Sequence::copy_of(alloc, device)?,
+                device: DeviceName::copy_of(alloc, device)?,
                 packet: stored_packet(alloc, digits)?,
             })
         }
         b"round" if rest.is_empty() => Ok(Call::Round),
         b"transmit" => Ok(Call::Transmit {
-            device: Sequence::copy_of(alloc, rest)?,
+            device: DeviceName::copy_of(alloc, rest)?,
         }),
         _ => Err(Trouble::Malformed),
     }

@@ -225,6 +225,7 @@ fn at_open<'a, T: Handlers + Drop, R: Wait>(
             Ok(Vec::from_slice(alloc, b"noted")?)
         }
         b"poll" => polled(rt, alloc, seated, step),
+        b"round" => rounded(rt, alloc, seated, step.words),
         b"forward" => forwarded(rt, alloc, seated, step.words),
         b"sweep" => swept(rt, alloc, seated, step.words),
         b"links" | b"receive" | b"counts" | b"sent" => linked(alloc, seated, step),
@@ -307,6 +308,19 @@ fn polled<'a, T: Handlers + Drop, R: Wait>(
     let (device, most) = cut(rest, b' ');
     let reply = seated.poll(rt, number_of(seat)?, device, number_of(most)?)?;
     Ok(reply_shown(alloc, &reply, step.wanted)?)
+}
+
+/// Makes a Round by a seat, as a driver does.
+fn rounded<'a, T: Handlers + Drop, R: Wait>(
+    rt: &R,
+    alloc: Global,
+    seated: &mut Seated<'a, T, R>,
+    words: &[u8],
+) -> Result<Vec<u8>, Trouble> {
+    match seated.round(rt, number_of(words)?)? {
+        Ok(count) => Ok(format!(in alloc; "worked {count}")?.into_bytes()),
+        Err(fault) => fault_shown(alloc, fault),
+    }
 }
 
 /// Makes a view learn, check or list names.

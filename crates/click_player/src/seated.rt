@@ -222,6 +222,16 @@ impl<'a, T: Handlers + Drop, R: Wait> Seated<'a, T, R> {
         Ok(self.desk.poll(rt, &mut self.seats[place], device, most))
     }
 
+    /// Makes a Round by the seat of this number, as a driver does.
+    pub fn round<S: Wait>(
+        &mut self,
+        rt: &S,
+        number: usize,
+    ) -> Result<Result<u64, DeskFault>, Trouble> {
+        let place = place_of(&self.seats, number)?;
+        Ok(self.desk.round(rt, &mut self.seats[place]))
+    }
+
     /// Serves a session at the seat of this number.
     pub fn session(
         &mut self,

@@ -12,7 +12,8 @@ use click_page::Page;
 use click_router::Handlers;
 use click_streams::{Sink, Source};
 use click_workers::{
-    Companion, CompanionRan, Door, Gate, OpenGate, Opening, SeatPort, run_with_companion,
+    Companion, CompanionRan, Door, Gate, MAX_ENTRIES, OpenGate, Opening, SeatPort,
+    run_with_companion,
 };
 use std::alloc::Global;
 use std::sync::Wait;
@@ -74,9 +75,6 @@ fn serve_page<P: Port, C: Clock, R: Wait>(
     let ended = serve_until(rt, clock, alloc, http_listener, &mut page, stop);
     (ended, page.into_port())
 }
-
-/// The maximum number of entries of the history of a run that ends.
-const MAX_ENTRIES: usize = 1_048_576;
 
 /// Returns the room of a run's book, or `None` for a live router, which keeps no book.
 fn room_of(live: bool) -> Option<usize>

@@ -1,5 +1,5 @@
 -- A swap, which replaces the running configuration or is refused (Click manual, "hot swapping").
-use Rattle.std.specs.Prelude.{ℕ, List}
+use Rattle.std.specs.Prelude.{◌≡◌, ℕ, List}
 use Rattle.click_engine.specs.TakeOver as plants
 use Rattle.click_router.specs.Opened.{IsOpened, IsFirstFault}
 use Rattle.click_router.specs.State.{RouterState}
@@ -13,6 +13,10 @@ use Rattle.click_router.specs.declared.fault.ConfigFault.{ConfigFault}
 -- The number of overruns is taken over too.
 abbrev pub taken : RouterState → RouterState → RouterState
 taken new old = record new { plant = plants.taken new.plant old.plant }
+
+-- The reply refuses the text for its first fault.
+abbrev pub IsRefused : List ℕ → Reply → Type 0
+IsRefused text r = (f : ConfigFault) × IsFirstFault text f × (r ≡ reply.Refused (refusal.Config f))
 
 -- A text that opens a router is installed. A text with a fault is refused for its first fault, and
 -- changes nothing.

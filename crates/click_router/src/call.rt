@@ -3,6 +3,7 @@
 ghost use Rattle.std.specs.Prelude.{◌≡◌, false, IfOk};
 ghost use Rattle.click_router.specs.One.{refusal_of, refusal_holds};
 
+use crate::device_name::DeviceName;
 use crate::fault::ConfigFault;
 use crate::globals::is_hotconfig;
 use click_base::sequence::Sequence;
@@ -40,20 +41,20 @@ pub enum Call {
     },
     /// Lets a packet enter at the FromDevice of the device.
     Arrive {
-        device: Sequence<u8>,
+        device: DeviceName,
         packet: StoredPacket,
     },
     /// Lets packets enter at the FromDevice of the device, one after another. At a desk, `taken`
     /// has the packets that were drawn from the device's feed.
     Poll {
-        device: Sequence<u8>,
+        device: DeviceName,
         taken: Sequence<StoredPacket>,
     },
     /// Runs each task once, in flat order.
     Round,
     /// Pulls one packet at the ToDevice of the device.
     Transmit {
-        device: Sequence<u8>,
+        device: DeviceName,
     },
 }
 

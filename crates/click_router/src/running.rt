@@ -1,7 +1,9 @@
 //! The running configuration: its handlers, its packets, and how it is replaced.
 
-ghost use Rattle.std.specs.Prelude.{◌≡◌};
+ghost use Rattle.std.specs.Prelude.{◌≡◌, IfErr, IfOk};
 ghost use Rattle.click_router.specs.One.{arrivals};
+ghost use Rattle.click_router.specs.Opened.{IsOpened};
+ghost use Rattle.click_router.specs.Swap.{IsRefused};
 
 use crate::call::{Reply, StepFault, refusal_of};
 use crate::check::{Access, Check, check_element, check_own};
@@ -223,18 +225,33 @@ impl RunningConfig {
         ensures swaps { MatchResult result (λ reply. Swaps self.old text.now self.new reply) (λ _. self.new ≡ self.old) }
         ensures light { IfOk result (λ reply. holds_memory reply ≡ true → self.new ≡ self.old) }
     {
-        match prepare(alloc, text) {
+        match prepare_swap(alloc, text) {
             Ok(prepared) => {
                 self.install(prepared);
                 Ok(StoredReply::of(CompactReply::Done))
             }
-            Err(fault) => match fault.kind {
-                FaultKind::NoMemory => Err(StepFault::NoMemory),
-                _ => match StoredReply::config_refused(alloc, fault) {
-                    Ok(reply) => Ok(reply),
-                    Err(_) => Err(StepFault::NoMemory),
-                },
-            },
+            Err(outcome) => outcome,
         }
+    }
+}
+
+/// Prepares the configuration of a text for a swap, or returns what the swap returns instead: the
+/// reply that refuses the text, or out of memory.
+///
+/// What may fail is done here. So a caller can still publish the configuration before it installs
+/// it.
+pub fn prepare_swap(alloc: Global, text: &[u8]) -> Result<Prepared, Result<StoredReply, StepFault>>
+    ensures opened { IfOk result (λ prepared. IsOpened text.now prepared) }
+    ensures refused { IfErr result (λ outcome. IfOk outcome (λ reply. IsRefused text.now reply)) }
+{
+    match prepare(alloc, text) {
+        Ok(prepared) => Ok(prepared),
+        Err(fault) => match fault.kind {
+            FaultKind::NoMemory => Err(Err(StepFault::NoMemory)),
+            _ => match StoredReply::config_refused(alloc, fault) {
+                Ok(reply) => Err(Ok(reply)),
+                Err(_) => Err(Err(StepFault::NoMemory)),
+            },
+        },
     }
 }

@@ -1,7 +1,7 @@
 -- The elements of a scope and their names (Click manual, "Elements").
 use Rattle.std.specs.Prelude.{ℕ, ◌+◌, List, [], ◌∷◌, ◌++◌, map, filter_map, Bool, ◌&&◌, ◌||◌, Option, Some, None, codes, decimal, if◌then◌else◌}
-use Rattle.std.specs.List.{list_any}
 use Rattle.std.specs.Str.{bytes_eq}
+use Rattle.click_base.specs.NameLists.{has_name}
 use Rattle.click_text.specs.declared.syntax.Span.{Span}
 use Rattle.click_text.specs.declared.syntax.ClassReference.{ClassReference}
 use Rattle.click_text.specs.declared.syntax.ClassReference.TheVariants as class
@@ -36,9 +36,6 @@ head_name text (head.Compound b) = None
 
 abbrev pub declared_names : List ℕ → List Placed → List (List ℕ)
 declared_names text es = filter_map (λ p. head_name text p.element.head) es
-
-abbrev pub has_name : List ℕ → List (List ℕ) → Bool
-has_name name known = list_any (bytes_eq name) known
 
 abbrev pub input_name : List ℕ
 input_name = codes "input"

@@ -17,7 +17,8 @@ use Rattle.click_text.specs.Pieces.{span}
 use Rattle.click_text.specs.Arguments.{AreArguments}
 use Rattle.click_scopes.specs.Scopes.{Scope, inside, is_body, statements_of, formals_of, Stands, statement_elements}
 use Rattle.click_scopes.specs.Classes.{Meaning, compound, meaning}
-use Rattle.click_scopes.specs.Elements.{Placed, place, placed, head_name, declared_names, has_name, input_name, output_name, is_port_name, Role, pseudo, refers, makes, role, made_name, name_by, count_with, element_meaning, ScopeElement, scope_elements_from, string_or_empty}
+use Rattle.click_scopes.specs.Elements.{Placed, place, placed, head_name, declared_names, input_name, output_name, is_port_name, Role, pseudo, refers, makes, role, made_name, name_by, count_with, element_meaning, ScopeElement, scope_elements_from, string_or_empty}
+use Rattle.click_base.specs.NameLists.{has_name}
 use Rattle.click_scopes.specs.declared.fault.WrongUse.{WrongUse}
 use Rattle.click_scopes.specs.declared.fault.WrongUse.TheVariants as kind
 

@@ -2,7 +2,7 @@
 
 ghost use Rattle.std.specs.Prelude.{◌≡◌, [], ◌∷◌, ◌++◌, IfOk, OnOk, OnErr, position, if◌then◌else◌};
 ghost use Rattle.std.specs.Str.{bytes_eq};
-ghost use Rattle.click_scopes.specs.Elements.{has_name};
+ghost use Rattle.click_base.specs.NameLists.{has_name};
 
 use indexmap::IndexSet;
 use std::alloc::{AllocError, Global};

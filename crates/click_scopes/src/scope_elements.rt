@@ -2,7 +2,8 @@
 
 ghost use Rattle.std.specs.Prelude.{◌≡◌, ◌<◌, ℕ, List, [], ◌∷◌, ◌++◌, map, All, IfOk, OnOk};
 ghost use Rattle.click_scopes.specs.Elements as spec;
-ghost use Rattle.click_scopes.specs.Elements.{Placed, has_name, scope_elements_from};
+ghost use Rattle.click_scopes.specs.Elements.{Placed, scope_elements_from};
+ghost use Rattle.click_base.specs.NameLists.{has_name};
 ghost use Rattle.click_scopes.specs.kept.CompoundArguments.{HasArguments};
 ghost use Rattle.click_scopes.specs.kept.Lookups.{class_body};
 ghost use Rattle.click_scopes.specs.kept.ScopeElements.{AreScopeElementsOf, AreStringsOf, strings_of, strings_made};

@@ -5,10 +5,9 @@ ghost use Rattle.click_router.specs.Polls.{is_poll};
 
 use crate::cases::{Case, assert_case};
 use crate::desks::{Asked, call_of};
-use click_base::sequence::Sequence;
 use click_control::{Ended, Port, serve};
 use click_packet::{Packet, StoredPacket};
-use click_router::{Call, CompactReply, Handlers, Reply, Router, prepare};
+use click_router::{Call, CompactReply, DeviceName, Handlers, Reply, Router, prepare};
 use click_streams::{Reading, Writing};
 use std::alloc::Global;
 use std::sync::Arc;
@@ -50,7 +49,7 @@ fn arrive(alloc: Global) -> Option<Call>
     ensures { IfSome result (λ call. is_poll call ≡ false) }
 {
     Some(Call::Arrive {
-        device: Sequence::copy_of(alloc, b"a").ok()?,
+        device: DeviceName::copy_of(alloc, b"a").ok()?,
         packet: StoredPacket::of(alloc, &Packet::of(b"ab").ok()?).ok()?,
     })
 }
@@ -59,7 +58,7 @@ fn transmit(alloc: Global) -> Option<Call>
     ensures { IfSome result (λ call. is_poll call ≡ false) }
 {
     Some(Call::Transmit {
-        device: Sequence::copy_of(alloc, b"b").ok()?,
+        device: DeviceName::copy_of(alloc, b"b").ok()?,
     })
 }
 

@@ -52,18 +52,39 @@ fn latest_index(reader: &mut Option<ReadHandle<Latest>>) -> Option<usize> {
 }
 
 impl<I: Drop> View<I> {
-    /// Moves on to this install, if it is a later one.
-    fn advance(&mut self, mark: &Mark<I>)
-        requires shown { Shows self.old.board mark.now.cell }
-        requires book { self.old.board.tag ≡ numbers mark.now.told.book }
-        ensures board { self.new.board ≡ self.old.board }
-        ensures later { BeginsWith self.new.list self.old.list }
-        ensures told { BeginsWith self.new.list (installs mark.now.told.log) }
+    ghost use Rattle.std.specs.Prelude.{◌≡◌, IfOk, OnErr, Ok};
+    ghost use Rattle.std.specs.Fn.{FnOnceReturnsAt};
+
+    /// Returns the later one of this install and the last one that the view shows.
+    fn later_of(&self, mark: &Mark<I>) -> Mark<I>
+        requires shown { Shows self.now.board mark.now.cell }
+        requires book { self.now.board.tag ≡ numbers mark.now.told.book }
+        ensures place { Shows self.now.board result.cell × (self.now.board.tag ≡ numbers result.told.book) }
+        ensures later { BeginsWith (installs result.told.log) self.now.list }
+        ensures told { BeginsWith (installs result.told.log) (installs mark.now.told.log) }
     {
         let mut both = self.mark.told.seen.again();
         both.learn(&mark.told.seen);
         if self.mark.told.number() < mark.told.number() {
-            self.mark = mark.again();
+            mark.again()
+        } else {
+            self.mark.again()
+        }
+    }
+
+    /// Returns the install that the signal announced last, if it is a later one than the view
+    /// shows, and else the last one that the view shows. The view still shows what it showed.
+    fn newest(&mut self) -> Mark<I>
+        ensures same { self.new ≡ self.old }
+        ensures place { Shows self.old.board result.cell × (self.old.board.tag ≡ numbers result.told.book) }
+        ensures later { BeginsWith (installs result.told.log) self.old.list }
+    {
+        let Some(index) = latest_index(&mut self.reader) else {
+            return self.mark.again();
+        };
+        match self.board.mark_at(index) {
+            Some(mark) => self.later_of(&mark),
+            None => self.mark.again(),
         }
     }
 
@@ -78,7 +99,7 @@ impl<I: Drop> View<I> {
     {
         let _number = self.mark.told.number();
         match &notice.mark {
-            Some(mark) => self.advance(mark),
+            Some(mark) => self.mark = self.later_of(mark),
             // A list that has views is stored, so each notice of it has a mark.
             None => unreachable!(),
         }
@@ -97,11 +118,26 @@ impl<I: Drop> View<I> {
         ensures board { self.new.board ≡ self.old.board }
         ensures later { BeginsWith self.new.list self.old.list }
     {
-        let Some(index) = latest_index(&mut self.reader) else {
-            return;
-        };
-        if let Some(mark) = self.board.mark_at(index) {
-            self.advance(&mark);
+        self.mark = self.newest();
+    }
+
+    /// Calls `f` with the install that `refresh` would move on to. Moves on to it if `f` succeeds. If
+    /// `f` fails, the view still shows what it showed.
+    pub fn refresh_with<R, E, F: FnOnce(&I) -> Result<R, E>>(&mut self, f: F) -> Result<R, E>
+        requires { F.IsAlwaysCallable f }
+        ensures board { self.new.board ≡ self.old.board }
+        ensures later { BeginsWith self.new.list self.old.list }
+        ensures ok { IfOk result (λ r. (install : I) × IsLast self.new.list install × FnOnceReturnsAt F.FnOnce f install (Ok r)) }
+        ensures err { OnErr result (self.new ≡ self.old) }
+    {
+        let mark = self.newest();
+        let _number = mark.told.number();
+        match f(self.board.install(&mark.cell, &mark.told.written)) {
+            Ok(answer) => {
+                self.mark = mark;
+                Ok(answer)
+            }
+            Err(fault) => Err(fault),
         }
     }
 

@@ -28,7 +28,8 @@ pub use linked::{LinkEnd, LinkSetup, LinkedRan, run_linked, run_linked_with_comp
 pub use listening::Listening;
 pub use opening::Opening;
 pub use runs::{
-    AllRan, CompanionRan, Ran, RunFault, run, run_live, run_with_companion, run_workers,
+    AllRan, CompanionRan, MAX_ENTRIES, Ran, RunFault, run, run_live, run_with_companion,
+    run_workers,
 };
 pub use seat_group::SeatGroup;
 pub use seat_port::SeatPort;

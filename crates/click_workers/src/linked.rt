@@ -85,7 +85,7 @@ fn serve_linked<
     alloc: Global,
     desk: &Desk<T, &R>,
     clients: Clients<D, G>,
-    wires: LinkSet<L, S>,
+    link_set: LinkSet<L, S>,
     beside: B,
     run_seats: RunSeats<T, (Seat<T>, B::Seats)>,
 ) -> (LinksOutcome<T, L, S>, (RunSeats<T, B::Seats>, B::Done))
@@ -93,16 +93,16 @@ fn serve_linked<
     requires turns { 0 < clients.turns }
     requires forwarder { run_seats.beside.0.desk ≡ desk.now }
     requires of { All (λ s. s.desk ≡ desk.now) (B.Seats.sittings run_seats.beside.1) }
-    requires devices { vec_len wires.receivers ≤ length wires.devices.now }
+    requires devices { vec_len link_set.receivers ≤ length link_set.devices.now }
     ensures desk { StayOf desk.now run_seats.work.seats.items result.1.0.work.seats.items }
     ensures worked { Worked (AttendedInTurn D.lets_in D.Reader.input D.Writer.output G.gives G.told clients.entry.door.now clients.entry.gate.now clients.entry.readonly clients.entry.turns)
         (DroveFor G.gives G.told clients.entry.gate.now None) clients.entry.places (vec_len run_seats.work.seats) result.1.0.work.seats.items result.1.0.work.ended.items result.1.0.work.drivers.items }
     ensures room { vec_capacity run_seats.work.seats ≤ vec_capacity result.1.0.work.seats }
     ensures beside { AllZip SameSeat (B.Seats.sittings run_seats.beside.1) (B.Seats.sittings result.1.0.beside) }
     ensures does { B.does beside run_seats.beside.1 result.1.0.beside result.1.1 }
-    ensures receives { AllZip (λ old new. (new.device ≡ old.device) × Receives (L.received old.link) (L.received new.link) old.intake new.intake new.received.dropped) wires.entry.receivers.items result.0.links.items }
+    ensures receives { AllZip (λ old new. (new.device ≡ old.device) × Receives (L.received old.link) (L.received new.link) old.intake new.intake new.received.dropped) link_set.entry.receivers.items result.0.links.items }
     ensures same { SameSeat run_seats.beside.0 result.0.seat }
-    ensures forwards { Forwards (names_of wires.entry.devices.now) run_seats.beside.0.calls result.0.seat.calls (S.attempts wires.entry.sender) (S.attempts result.0.sender) }
+    ensures forwards { Forwards (names_of link_set.entry.devices.now) run_seats.beside.0.calls result.0.seat.calls (S.attempts link_set.entry.sender) (S.attempts result.0.sender) }
 {
     let stop = &AtomicBool::new(false);
     let service = &Service::of(alloc, &clients, None);
@@ -111,7 +111,7 @@ fn serve_linked<
         devices,
         receivers,
         sender,
-    } = wires;
+    } = link_set;
     let RunSeats {
         work,
         beside: (forwarder, seats),
@@ -128,12 +128,12 @@ fn serve_linked<
                 × SameSeat forwarder result.seat
                 × Forwards (names_of devices.entry.now) forwarder.calls result.seat.calls (S.attempts sender) (S.attempts result.sender) }
         {
-            let wires = LinkSet {
+            let link_set = LinkSet {
                 devices,
                 receivers,
                 sender,
             };
-            run_links(rt, alloc, desk, forwarder, wires, stop)
+            run_links(rt, alloc, desk, forwarder, link_set, stop)
         },
         move || -> (RunSeats<T, B::Seats>, B::Done)
             requires { IsSync R.row × IsSync D.row × IsSync G.row × IsSend T.row × IsSend B.row × Ready desk.now service.now.sessions (vec_len run_seats.work.seats) run_seats.work.seats.items run_seats.work.ended.items run_seats.work.drivers.items
@@ -356,13 +356,13 @@ pub fn run_linked_with_companion<
         Ok(begun) => begun,
         Err(fault) => return Err(fault),
     };
-    let wires = LinkSet {
+    let link_set = LinkSet {
         devices,
         receivers,
         sender,
     };
     let (linked, (run_seats, done)) = serve_linked(
-        rt, alloc, &desk, clients, wires, beside, run_seats,
+        rt, alloc, &desk, clients, link_set, beside, run_seats,
     );
     let ran = close_and_settle(rt, alloc, desk, run_seats, linked, ends);
     Ok((ran, done))

@@ -26,7 +26,7 @@ use std::thread::Threads;
 use thiserror::Error;
 
 /// The maximum number of entries of a book's history.
-const MAX_ENTRIES: usize = 1_048_576;
+pub const MAX_ENTRIES: usize = 1_048_576;
 
 /// The fault of a run that has no book.
 #[derive(Debug, Drop, Error)]

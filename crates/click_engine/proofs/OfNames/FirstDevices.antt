@@ -8,7 +8,7 @@ use Rattle.std.proofs.lemmas.Iterator.Adapters.{position_from-zero}
 use Rattle.std.proofs.lemmas.List.{take_more, length_push}
 use Rattle.std.proofs.lemmas.Slice.Eq.{bytes_eq-Decides}
 use Rattle.click_classes.specs.declared.state.State.{State}
-use Rattle.click_scopes.specs.Elements.{has_name}
+use Rattle.click_base.specs.NameLists.{has_name}
 use Rattle.click_engine.specs.declared.devices.PacketDirection.{PacketDirection}
 use Rattle.click_engine.specs.Devices.{Device, device_of, without, first_with, devices_from, element_with}
 use Rattle.click_engine.specs.kept.Tables.{devices}

@@ -7,7 +7,7 @@ use Rattle.std.proofs.lemmas.Bool.{false≢true}
 use Rattle.std.proofs.lemmas.Iterator.Adapters.{position_from-zero}
 use Rattle.std.proofs.lemmas.List.{take_more}
 use Rattle.std.proofs.lemmas.Slice.Eq.{bytes_eq-Decides}
-use Rattle.click_scopes.specs.Elements.{has_name}
+use Rattle.click_base.specs.NameLists.{has_name}
 use Rattle.click_engine.specs.Devices.{element_with}
 use Rattle.click_engine.specs.kept.Tables.{devices, FindsFirst}
 

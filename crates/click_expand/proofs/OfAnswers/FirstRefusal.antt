@@ -10,7 +10,7 @@ use Rattle.std.proofs.lemmas.Bool.Decides.{nat_tests}
 use Rattle.click_text.specs.declared.strings.Mode.TheVariants as mode
 use Rattle.click_text.specs.Strings.{closes}
 use Rattle.click_text.proofs.OfPieces.StringEnds.{closes_once}
-use Rattle.click_scopes.specs.Elements.{has_name}
+use Rattle.click_base.specs.NameLists.{has_name}
 use Rattle.click_expand.specs.Flat.{AreDistinct, is_whole}
 use Rattle.click_expand.specs.kept.FinalChecks.{flat_names_in, IsRepeated}
 use Rattle.click_expand.specs.declared.flat.FlatElement.{FlatElement}

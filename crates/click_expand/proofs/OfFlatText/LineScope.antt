@@ -17,7 +17,8 @@ use Rattle.click_text.specs.Spans.{bytes_at}
 use Rattle.click_expand.specs.declared.flat.FlatElement.{FlatElement}
 use Rattle.click_expand.specs.declared.flat.Connection.{Connection}
 use Rattle.click_scopes.specs.Classes.{primitive, primitive_of, meaning}
-use Rattle.click_scopes.specs.Elements.{Placed, place, placed, declared_names, has_name, refers, role, ScopeElement, scope_element, scope_elements_from}
+use Rattle.click_scopes.specs.Elements.{Placed, place, placed, declared_names, refers, role, ScopeElement, scope_element, scope_elements_from}
+use Rattle.click_base.specs.NameLists.{has_name}
 use Rattle.click_expand.specs.FlatText.{name_at_place}
 use Rattle.click_expand.proofs.OfFlatText.Lines.{element_statement, connection_statement, AreLines, no_lines, first_connection, first_element}
 

@@ -20,7 +20,8 @@ use Rattle.click_expand.specs.declared.flat.FlatElement.{FlatElement}
 use Rattle.click_expand.specs.declared.flat.Connection.{Connection}
 use Rattle.click_scopes.specs.Scopes.{Scope, whole, inside, Stands, at_top, nested, bodies_in, is_body}
 use Rattle.click_scopes.specs.Classes.{primitive, compound, meaning}
-use Rattle.click_scopes.specs.Elements.{Placed, place, placed, declared_names, has_name, input_name, output_name, Role, refers, makes, role, element_meaning, ScopeElement, scope_elements_from, made_name}
+use Rattle.click_scopes.specs.Elements.{Placed, place, placed, declared_names, input_name, output_name, Role, refers, makes, role, element_meaning, ScopeElement, scope_elements_from, made_name}
+use Rattle.click_base.specs.NameLists.{has_name}
 use Rattle.click_scopes.specs.Faults.{End, WrittenConnection, ScopeNames, scope_names, written_end, end_by, written_connections_behind, written_connections_from, declared_meaning, scope_placed, scope_declared, scope_connections, is_pseudo, IsWrong, unknown_name, unknown_class, unknown_declared, unknown_original, named_twice, port_declared, formal_twice, wrong_parameters, no_output, no_input, output_as_source, input_as_target, input_gap, output_gap}
 use Rattle.click_expand.specs.Flat.{AreDistinct}
 use Rattle.click_expand.specs.FlatText.{name_at_place}

@@ -13,7 +13,8 @@ use Rattle.click_text.specs.declared.syntax.Config.{Config}
 use Rattle.click_text.specs.Spans.{bytes_at}
 use Rattle.click_scopes.specs.Scopes.{Scope, inside, is_body, formals_of, Stands}
 use Rattle.click_scopes.specs.Classes.{Meaning, compound, class_meaning}
-use Rattle.click_scopes.specs.Elements.{Placed, has_name, Role, pseudo, refers, makes, role, made_name, count_with, head_class, element_meaning, ScopeElement, scope_element, scope_element_by, scope_elements_from}
+use Rattle.click_scopes.specs.Elements.{Placed, Role, pseudo, refers, makes, role, made_name, count_with, head_class, element_meaning, ScopeElement, scope_element, scope_element_by, scope_elements_from}
+use Rattle.click_base.specs.NameLists.{has_name}
 use Rattle.click_scopes.specs.Faults.{scope_placed, scope_declared, elements_of_scope, role_in, unknown_name, unknown_class, unknown_declared, named_twice, formal_twice, first_token, IsFaultless}
 use Rattle.click_scopes.specs.declared.fault.WrongUse.TheVariants as kind
 use Rattle.click_scopes.proofs.OfBodies.EarlierBodies.{scope_element-made}

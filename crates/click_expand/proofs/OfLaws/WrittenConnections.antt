@@ -12,7 +12,8 @@ use Rattle.click_text.specs.declared.syntax.Config.{Config}
 use Rattle.click_text.specs.Spans.{bytes_at}
 use Rattle.click_scopes.specs.Scopes.{Scope, whole, statement_elements}
 use Rattle.click_scopes.specs.Classes.{compound}
-use Rattle.click_scopes.specs.Elements.{Placed, place, Role, pseudo, refers, makes, role_of_head, has_name, ScopeElement}
+use Rattle.click_scopes.specs.Elements.{Placed, place, Role, pseudo, refers, makes, role_of_head, ScopeElement}
+use Rattle.click_base.specs.NameLists.{has_name}
 use Rattle.click_scopes.specs.Faults.{End, WrittenConnection, ScopeNames, scope_names, written_end, number_behind, number_after_all, written_connections_behind, written_connections_from, statement_connections, elements_of_scope, scope_connections, first_token}
 use Rattle.click_expand.specs.Parameters.{Bindings}
 use Rattle.click_expand.specs.Instances.{PrimitiveElement, ArePrimitiveElements, no_elements, primitive_element, branch, LeadsTo, to_whole, to_inner}

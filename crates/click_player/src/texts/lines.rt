@@ -6,7 +6,7 @@ use crate::script::{cut, number_of};
 use click_base::sequence::Sequence;
 use click_lines::{entry_line, read_line, reply_text};
 use click_packet::StoredPacket;
-use click_router::{Call, Reply};
+use click_router::{Call, DeviceName, Reply};
 use std::alloc::Global;
 
 /// Returns the line of a seat's call with its reply, which has to be read as the same.
@@ -86,7 +86,7 @@ fn call_of(alloc: Global, words: &[u8]) -> Result<Call, Stop> {
             text: Sequence::copy_of(alloc, rest)?,
         }),
         b"poll" => Ok(Call::Poll {
-            device: Sequence::copy_of(alloc, first)?,
+            device: DeviceName::copy_of(alloc, first)?,
             taken: packets_of(alloc, last)?,
         }),
         _ => Err(Stop::Malformed),

@@ -3,7 +3,7 @@
 use click_base::sequence::Sequence;
 use click_lines::{HexFault, packet_of};
 use click_packet::StoredPacket;
-use click_router::Call;
+use click_router::{Call, DeviceName};
 use memchr::memchr;
 use std::alloc::{AllocError, Global};
 use thiserror::Error;
@@ -56,7 +56,7 @@ pub fn call_of(alloc: Global, line: &[u8]) -> Result<Call, LineFault> {
             let (device, rest) = field(rest)?;
             ended(rest)?;
             Ok(Call::Transmit {
-                device: Sequence::copy_of(alloc, device)?,
+                device: DeviceName::copy_of(alloc, device)?,
             })
         }
         b"read" => {
@@ -114,7 +114,7 @@ fn arrive_of(alloc: Global, rest: Option<&[u8]>) -> Result<Call, LineFault> {
     let (digits, rest) = field(rest)?;
     ended(rest)?;
     Ok(Call::Arrive {
-        device: Sequence::copy_of(alloc, device)?,
+        device: DeviceName::copy_of(alloc, device)?,
         packet: StoredPacket::of(alloc, &packet_of(alloc, digits)?)?,
     })
 }
@@ -131,7 +131,7 @@ fn poll_of(alloc: Global, rest: Option<&[u8]>) -> Result<Call, LineFault> {
         }
     };
     Ok(Call::Poll {
-        device: Sequence::copy_of(alloc, device)?,
+        device: DeviceName::copy_of(alloc, device)?,
         taken,
     })
 }

@@ -12,7 +12,8 @@ use Rattle.click_text.specs.declared.syntax.Head.TheVariants as head
 use Rattle.click_text.specs.declared.syntax.Element.{Element}
 use Rattle.click_text.specs.declared.syntax.Config.{Config}
 use Rattle.click_text.specs.Spans.{bytes_at}
-use Rattle.click_scopes.specs.Elements.{Placed, Role, pseudo, refers, makes, role, role_of_head, word_of, is_port_name, input_name, output_name, count_with, has_name, head_name, declared_names, element_meaning, made_name, ScopeElement, scope_element, scope_elements_from}
+use Rattle.click_scopes.specs.Elements.{Placed, Role, pseudo, refers, makes, role, role_of_head, word_of, is_port_name, input_name, output_name, count_with, head_name, declared_names, element_meaning, made_name, ScopeElement, scope_element, scope_elements_from}
+use Rattle.click_base.specs.NameLists.{has_name}
 use Rattle.click_scopes.specs.Faults.{ScopeNames, end_by, written_end, first_token, number_behind, number_after_all, is_declared_as, declared_meaning}
 use Rattle.click_scopes.specs.kept.Tables.{elements_of, names_declared, numbers_from}
 use Rattle.click_scopes.specs.kept.WrittenConnections.{IsOwner, IsEndKept}

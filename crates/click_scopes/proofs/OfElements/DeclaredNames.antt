@@ -7,7 +7,8 @@ use Rattle.std.proofs.lemmas.Iterator.Adapters.{position_from-zero}
 use Rattle.std.proofs.lemmas.Slice.Eq.{bytes_eq-Decides}
 use Rattle.click_text.specs.declared.syntax.Element.{Element}
 use Rattle.click_scopes.specs.declared.written_scopes.WrittenElement.{WrittenElement}
-use Rattle.click_scopes.specs.Elements.{has_name, head_name}
+use Rattle.click_scopes.specs.Elements.{head_name}
+use Rattle.click_base.specs.NameLists.{has_name}
 use Rattle.click_scopes.specs.Faults.{is_declared_as}
 use Rattle.click_scopes.specs.kept.Tables.{elements_of}
 use Rattle.click_scopes.specs.kept.ConnectionEnds.{at, declares, AreDeclared}

@@ -10,7 +10,8 @@ use Rattle.click_text.specs.declared.syntax.Statement.{Statement}
 use Rattle.click_text.specs.declared.syntax.Config.{Config}
 use Rattle.click_text.specs.Spans.{bytes_at}
 use Rattle.click_scopes.specs.Scopes.{Scope, whole, inside, is_body, Stands}
-use Rattle.click_scopes.specs.Elements.{Placed, pseudo, refers, makes, role, role_of_head, count_with, is_port_name, has_name, head_name, declared_names, scope_element, scope_element_by, scope_elements_from}
+use Rattle.click_scopes.specs.Elements.{Placed, pseudo, refers, makes, role, role_of_head, count_with, is_port_name, head_name, declared_names, scope_element, scope_element_by, scope_elements_from}
+use Rattle.click_base.specs.NameLists.{has_name}
 use Rattle.click_scopes.specs.kept.Tables.{AreWritten, elements_of, names_declared, scope_element_of}
 use Rattle.click_scopes.specs.kept.Nesting.{IsNested}
 use Rattle.click_scopes.specs.kept.Scoped.{table_place}

@@ -14,7 +14,8 @@ use Rattle.click_scopes.specs.declared.written_scopes.WrittenElement.{WrittenEle
 use Rattle.click_scopes.specs.declared.scope_elements.ScopeElement.{ScopeElement as ScopeElementKept}
 use Rattle.click_scopes.specs.declared.scope_elements.Role.{Role as RoleKept}
 use Rattle.click_scopes.specs.declared.scope_elements.Role.TheVariants as kept
-use Rattle.click_scopes.specs.Elements.{Placed, Role, pseudo, refers, makes, role, count_with, has_name, head_name, ScopeElement, scope_element, scope_elements_from}
+use Rattle.click_scopes.specs.Elements.{Placed, Role, pseudo, refers, makes, role, count_with, head_name, ScopeElement, scope_element, scope_elements_from}
+use Rattle.click_base.specs.NameLists.{has_name}
 use Rattle.click_scopes.specs.kept.Tables.{IsWrittenElement, AreWritten, elements_of, names_declared, numbers_from, scope_element_of, role_kept}
 use Rattle.click_scopes.specs.kept.ScopeElements.{string_where_made, string_made, strings_made, strings_of}
 

@@ -6,7 +6,8 @@ use Rattle.click_text.specs.declared.syntax.ClassReference.TheVariants as class
 use Rattle.click_text.specs.declared.syntax.Statement.{Statement}
 use Rattle.click_text.specs.declared.syntax.Config.{Config}
 use Rattle.click_scopes.specs.Scopes.{Scope, whole, inside, is_body, Stands, at_top}
-use Rattle.click_scopes.specs.Elements.{Placed, makes, role_of_head, has_name, scope_elements_from}
+use Rattle.click_scopes.specs.Elements.{Placed, makes, role_of_head, scope_elements_from}
+use Rattle.click_base.specs.NameLists.{has_name}
 use Rattle.click_scopes.specs.Faults.{IsWrong, fault_number, scope_placed, scope_declared, role_in, first_token, unknown_name, unknown_class, unknown_declared, unknown_original, named_twice, port_declared, formal_twice, wrong_parameters, no_output, no_input, output_as_source, input_as_target, input_gap, output_gap}
 use Rattle.click_scopes.specs.kept.Nesting.{IsNested}
 use Rattle.click_scopes.specs.kept.Scoped.{table_place, AreSynonyms}

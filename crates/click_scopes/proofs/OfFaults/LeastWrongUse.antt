@@ -7,7 +7,7 @@ use Rattle.std.proofs.lemmas.Bool.{cases_order}
 use Rattle.std.proofs.lemmas.Option.{slice_get-get_or}
 use Rattle.std.proofs.lemmas.List.{take_more, map_push}
 use Rattle.click_text.specs.declared.syntax.Body.{Body}
-use Rattle.click_scopes.specs.Elements.{has_name}
+use Rattle.click_base.specs.NameLists.{has_name}
 use Rattle.click_scopes.specs.declared.scope_elements.ScopeElement.{ScopeElement as ScopeElementKept}
 use Rattle.click_scopes.proofs.OfElements.StatementElements.{has_name-added}
 use Rattle.click_scopes.specs.kept.FirstFault.{comes_before, first_of, AtMost, IsLeast, IsWrongScopeElement, IsWrongFormal, scope_element_at, local_names, formals_in, token_fault_if}

@@ -16,7 +16,8 @@ use Rattle.click_text.specs.declared.syntax.Statement.TheVariants as statement
 use Rattle.click_text.specs.declared.syntax.Config.{Config}
 use Rattle.click_text.specs.Spans.{bytes_at}
 use Rattle.click_scopes.specs.Scopes.{Scope, whole, inside, is_body, statements_of, formals_of, Stands}
-use Rattle.click_scopes.specs.Elements.{Placed, makes, has_name, is_port_name, made_name, ScopeElement, scope_elements_from, element_meaning}
+use Rattle.click_scopes.specs.Elements.{Placed, makes, is_port_name, made_name, ScopeElement, scope_elements_from, element_meaning}
+use Rattle.click_base.specs.NameLists.{has_name}
 use Rattle.click_scopes.specs.Faults.{IsWrong, fault_number, scope_placed, scope_declared, elements_of_scope, role_in, first_token, unknown_name, unknown_class, unknown_declared, unknown_original, named_twice, port_declared, formal_twice}
 use Rattle.click_scopes.specs.kept.Tables.{meaning_by, scope_element_of}
 use Rattle.click_scopes.specs.kept.ScopeElements.{strings_of, scope_strings}

@@ -4,7 +4,8 @@ use Rattle.std.specs.Str.{bytes_eq}
 use Rattle.click_text.specs.declared.syntax.Element.{Element}
 use Rattle.click_text.specs.declared.syntax.Statement.{Statement}
 use Rattle.click_text.specs.declared.syntax.Config.{Config}
-use Rattle.click_scopes.specs.Elements.{Placed, placed, has_name, head_name, declared_names, ScopeElement, scope_elements_from}
+use Rattle.click_scopes.specs.Elements.{Placed, placed, head_name, declared_names, ScopeElement, scope_elements_from}
+use Rattle.click_base.specs.NameLists.{has_name}
 use Rattle.click_scopes.specs.Faults.{ScopeNames, written_end, number_behind, is_declared_as, written_connections_from}
 use Rattle.click_scopes.specs.kept.Tables.{elements_of, numbers_from}
 use Rattle.click_scopes.specs.kept.Scoped.{ports_in}

@@ -6,7 +6,8 @@ use Rattle.click_text.specs.declared.syntax.Head.{Head}
 use Rattle.click_text.specs.declared.syntax.Head.TheVariants as head
 use Rattle.click_text.specs.Spans.{bytes_at}
 use Rattle.click_text.specs.declared.syntax.Body.{Body}
-use Rattle.click_scopes.specs.Elements.{is_port_name, has_name}
+use Rattle.click_scopes.specs.Elements.{is_port_name}
+use Rattle.click_base.specs.NameLists.{has_name}
 use Rattle.click_text.specs.declared.syntax.Config.{Config}
 use Rattle.click_scopes.specs.Faults.{IsWrong, fault_number, brace_by}
 use Rattle.click_scopes.specs.declared.scope_elements.ScopeElement.{ScopeElement as ScopeElementKept}

@@ -1,8 +1,8 @@
 use Rattle.std.proofs.Common.{◌≡◌, ℕ, List, ◌++◌, ◌∷◌, [], map, true, false, Bool, not, cond, refl, sym, ap, ◌∙◌}
 use Rattle.std.specs.Str.{bytes_eq}
 use Rattle.std.proofs.lemmas.Option.{slice_get_read}
-use Rattle.click_scopes.specs.Elements.{has_name}
-use Rattle.click_scopes.proofs.OfLists.NamePlaces.{any_map, added_map}
+use Rattle.click_base.specs.NameLists.{has_name}
+use Rattle.click_base.proofs.NamePlaces.{any_map, added_map}
 use Rattle.click_expand.proofs.OfAnswers.FirstRefusal.{repeated, names-more}
 use Rattle.click_expand.proofs.final_checks.first_repeated.Goals as goal
 

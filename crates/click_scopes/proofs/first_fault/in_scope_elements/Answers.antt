@@ -1,7 +1,7 @@
 use Rattle.std.proofs.Common.{◌≡◌, ◌+◌, ◌++◌, ◌∷◌, [], Some, cond, refl, sym, ap, ◌∙◌, subst, arith}
 use Rattle.std.specs.List.{slice_get}
 use Rattle.std.proofs.lemmas.Option.{slice_get_read}
-use Rattle.click_scopes.specs.Elements.{has_name}
+use Rattle.click_base.specs.NameLists.{has_name}
 use Rattle.click_scopes.specs.kept.FirstFault.{IsLeast, IsWrongScopeElement, first_of, scope_element_at}
 use Rattle.click_scopes.proofs.OfFaults.LeastWrongUse.{scope_elements-next, scope_elements-all, names-next}
 use Rattle.click_scopes.proofs.first_fault.in_scope_elements.Goals as goal

@@ -1,5 +1,5 @@
 use Rattle.std.proofs.Common.{◌≡◌, ℕ, List, take}
-use Rattle.click_scopes.specs.Elements.{has_name}
+use Rattle.click_base.specs.NameLists.{has_name}
 use Rattle.click_scopes.specs.kept.FirstFault.{IsLeast, IsWrongScopeElement, local_names}
 use Rattle.click_scopes.proofs.first_fault.in_scope_elements.Given as goal
 

@@ -1,5 +1,5 @@
 use Rattle.std.proofs.Common.{All, refl, subst, ap, ◌∙◌}
-use Rattle.click_scopes.specs.Elements.{has_name}
+use Rattle.click_base.specs.NameLists.{has_name}
 use Rattle.click_scopes.specs.kept.Tables.{elements_of, names_declared}
 use Rattle.click_scopes.specs.kept.ScopeElements.{AreScopeElementsOf, AreStringsOf}
 use Rattle.click_scopes.specs.kept.CompoundArguments.{HasArguments}

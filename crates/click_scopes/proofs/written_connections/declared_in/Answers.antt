@@ -1,5 +1,6 @@
 use Rattle.std.proofs.Common.{◌≡◌, ◌+◌, [], Some, sym, ap, ◌∙◌, refl}
-use Rattle.click_scopes.specs.Elements.{has_name, head_name}
+use Rattle.click_scopes.specs.Elements.{head_name}
+use Rattle.click_base.specs.NameLists.{has_name}
 use Rattle.click_scopes.specs.declared.written_connections.Declared.{Declared}
 use Rattle.click_scopes.proofs.OfElements.StatementElements.{undeclared, has_name-added, declared_by, declared_by-yes, declared_by-no, declared_by-all}
 use Rattle.click_scopes.proofs.OfElements.DeclaredNames.{declaring-none, declaring-as, declaring-next, declaring-other, elements_by, declaring-all}

@@ -1,5 +1,5 @@
 use Rattle.std.proofs.Common.{◌≡◌, ℕ, List}
-use Rattle.click_scopes.specs.Elements.{has_name}
+use Rattle.click_base.specs.NameLists.{has_name}
 use Rattle.click_scopes.proofs.OfElements.StatementElements.{declared_by}
 use Rattle.click_scopes.proofs.OfElements.DeclaredNames.{Declaring, elements_by}
 use Rattle.click_scopes.proofs.written_connections.declared_in.Given as goal

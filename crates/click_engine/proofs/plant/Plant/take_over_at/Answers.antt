@@ -18,13 +18,13 @@ returns-then-place-len-clause-taken c =
     let os = c.old.inside.run_memory.elements.items in let b = c.index_mut-before.result.now in
     let here : at < length es = omega (arith, c.if-at-len.true, c.len.ensures, c.self.inside.run_memory.elements.ok.0) in
     let there : place < length os = omega (arith, c.if-place-len.true, c.len-then-at-len.ensures, c.old.inside.run_memory.elements.ok.0) in
-    let lent : r ≡ get_or es at blank = c.index_mut-element.ensures.value ∙ get_or_default es at _ blank here in
+    let borrowed : r ≡ get_or es at blank = c.index_mut-element.ensures.value ∙ get_or_default es at _ blank here in
     let name : c.name-name.result.now ≡ slice_index_or c.self.inside.adjacency.names at [] = c.name-name.ensures.value ∙ ap (λ ns. slice_index_or ns at []) (ap (λ n. n.names) c.net.ensures) in
     let found : Some b ≡ named old (slice_index_or c.self.inside.adjacency.names at []) =
     sym (slice_get_read os (length os) place b refl there c.index_mut-before.ensures.value) ∙ ap (λ (p : Plant). slice_get p.elements place) c.old.view_is
     ∙ ap (λ o. option_and_then (slice_get old.elements) o) c.in-Some.ensures ∙ ap (named old) name in
     let after : record r { state = c.take_over.new.self } ≡ with_taken_over (get_or es at blank) (named old (slice_index_or c.self.inside.adjacency.names at [])) =
-    ap (λ s. record r { state = s }) c.take_over.ensures.taken ∙ ap (with_taken_over r) found ∙ ap (λ (e : Element). with_taken_over e (named old (slice_index_or c.self.inside.adjacency.names at []))) lent in
+    ap (λ s. record r { state = s }) c.take_over.ensures.taken ∙ ap (with_taken_over r) found ∙ ap (λ (e : Element). with_taken_over e (named old (slice_index_or c.self.inside.adjacency.names at []))) borrowed in
     rw after (ap (λ (q : Plant). record q { elements = set q.elements at (with_taken_over (get_or q.elements at blank) (named old (slice_index_or q.net.names at []))) }) v)
 
 pub returns-then-place-len-clause-kept : goal.returns-then-place-len-clause-kept

@@ -1,7 +1,7 @@
 use Rattle.std.proofs.Common.{ℕ, List, ◌∷◌, [], ◌++◌, cond, map, sym, not, ap, ◌∙◌}
 use Rattle.std.specs.Str.{bytes_eq}
-use Rattle.click_scopes.specs.Elements.{has_name}
-use Rattle.click_scopes.proofs.OfLists.NamePlaces.{added_map, any_map, not_not}
+use Rattle.click_base.specs.NameLists.{has_name}
+use Rattle.click_base.proofs.NamePlaces.{added_map, any_map, not_not}
 use Rattle.click_scopes.proofs.borrowed_names.BorrowedNames.add.Goals as goal
 
 pub returns-clause-taken : goal.returns-clause-taken

@@ -1,7 +1,7 @@
 use Rattle.std.proofs.Common.{sym, ◌∙◌, ap}
 use Rattle.std.specs.Str.{bytes_eq}
-use Rattle.click_scopes.specs.Elements.{has_name}
-use Rattle.click_scopes.proofs.OfLists.NamePlaces.{any_map}
+use Rattle.click_base.specs.NameLists.{has_name}
+use Rattle.click_base.proofs.NamePlaces.{any_map}
 use Rattle.click_scopes.proofs.borrowed_names.BorrowedNames.has.Goals as goal
 
 pub returns : goal.returns

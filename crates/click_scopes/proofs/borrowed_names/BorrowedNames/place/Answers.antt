@@ -1,6 +1,6 @@
 use Rattle.std.proofs.Common.{sym, ◌∙◌, ap, position}
 use Rattle.std.specs.Str.{bytes_eq}
-use Rattle.click_scopes.proofs.OfLists.NamePlaces.{position_map}
+use Rattle.click_base.proofs.NamePlaces.{position_map}
 use Rattle.click_scopes.proofs.borrowed_names.BorrowedNames.place.Goals as goal
 
 pub returns : goal.returns

@@ -1,8 +1,0 @@
-use Rattle.std.proofs.Common.{sym, ◌∙◌, ap}
-use Rattle.std.specs.Str.{bytes_eq}
-use Rattle.click_scopes.specs.Elements.{has_name}
-use Rattle.click_scopes.proofs.OfLists.NamePlaces.{any_map}
-use Rattle.click_scopes.proofs.names.Names.has.Goals as goal
-
-pub returns : goal.returns
-returns c = c.contains.ensures ∙ sym (any_map (bytes_eq c.args.name.now) (λ v. v.items) c.self.inside.set.keys) ∙ ap (has_name c.args.name.now) c.self.view_is
