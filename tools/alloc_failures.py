@@ -6,13 +6,15 @@ the run ends with status 3. In both cases no output is wrong.
     tools/alloc_failures.py [RUNS..]    these runs, or all
 
     session     control sessions, and configurations that are prepared
-    drivers     a session with drivers in their own threads
+    drivers     a session with drivers in their own threads, and the book of such a run
     swaps       a session with swaps
     pictures    drawings
     calls       handlers and swaps, by calls
     pcap        a capture
     scripts     the steps of tests/memory.script
     full_swaps  swaps of a full queue, in a session
+    views       a view that the install signal does not reach
+    datagrams   a datagram for whose packet there is no memory
 
 The programs must have been built. PROGRAM and PLAYER name other programs to check, CALLS and PCAP
 other programs for the modes --calls and --pcap of click_prog. tools/alloc_failures.c is compiled
@@ -203,6 +205,47 @@ def drivers(it: Refusing) -> None:
     if not it.answered:
         fail(f"{what}: no refused allocation is answered")
     it.passed("in the stored session with drivers")
+    books(it)
+
+
+# The rounds of each of two drivers, and a configuration whose source emits a packet in as many.
+ROUNDS, COUNTED = 9, "InfiniteSource(ab, 9, 1) -> c :: Counter -> Discard;"
+
+
+def books(it: Refusing) -> None:
+    """Checks the book of a session with two drivers, which make rounds.
+
+    It replays with the same replies. If a refused Round had moved a packet, a later reply of the
+    book would differ. A driver makes all its rounds unless one of its allocations is refused.
+    """
+    words = [program("click_prog"), "-e", COUNTED, "-w", "2", "--rounds", str(ROUNDS), "--book"]
+    what, given, short = "the book of a run with drivers", b"READ c.count\nQUIT\n", 0
+    whole = ran(words, given)
+    same(0, whole.status, f"{what}: its status")
+    same([1, ROUNDS, ROUNDS], is_replayed(whole, what), f"{what}: the calls of each seat")
+    for _, run, _, did in it.each(what, words, given):
+        if did.status:
+            is_cut(did, whole.out, run)
+            continue
+        session, *rounds = is_replayed(did, run)
+        # The session fails, or a driver, or the writing of the book stops at a line.
+        same(True, session <= 1 and max(rounds) <= ROUNDS, f"{run}: {session} calls of the session and {rounds} rounds")
+        short += max(rounds) == ROUNDS > min(rounds)
+        it.answered += 1
+    if not short:
+        fail(f"{what}: no refused allocation stops one driver alone")
+    it.passed("in a run with drivers and a book")
+
+
+def is_replayed(did: Ran, what: str) -> list[int]:
+    """Checks that the lines of a book, on standard error, are replayed with the same replies.
+
+    Returns the numbers of the calls of the seats of the session and of both drivers.
+    """
+    lines = did.err.splitlines()
+    came = ran([*command_of("click_prog --calls"), "-e", COUNTED, "--replay"], did.err)
+    same((b"replayed %d calls, all replies the same\n" % len(lines), 0), (came.out, came.status), f"{what}: the replay of {shown(did.err)}")
+    return [sum(line.startswith(b"%d\t" % seat) for line in lines) for seat in range(3)]
 
 
 # The running configuration, and the one that replaces it.
@@ -364,11 +407,12 @@ UNNOTICED = 2
 def steps_of(file: str) -> dict[int, str]:
     """Returns the steps of a test script that make a call, by line number."""
     steps = {at: line for at, line in enumerate(lines_of(file), 1) if line and not line.startswith(("#", "case\t"))}
-    return {at: line for at, line in steps.items() if line.split("\t")[0] in CALLING or re.match(r"\d+\t(read|write|swap|transmit) ", line)}
+    return {at: line for at, line in steps.items() if line.split("\t")[0] in CALLING or re.match(CALLS, line)}
 
 
-# The first columns of the steps that call a function that allocates.
-CALLING = ("parsed", "prepared", "make", "open", "poll", "settle")
+# The first columns of the steps that call a function that allocates, and the words of calls that do.
+CALLING = ("parsed", "prepared", "make", "open", "poll", "round", "settle")
+CALLS = r"\d+\t(read|write|checkread|checkwrite|swap|arrive|transmit) |\d+\tround\t"
 
 
 def scripts(it: Refusing) -> None:
@@ -403,7 +447,66 @@ def scripts(it: Refusing) -> None:
     it.passed(f"in {SCRIPT}")
 
 
-RUNS: dict[str, Callable[[Refusing], None]] = {it.__name__: it for it in (session, drivers, swaps, pictures, calls, pcap, scripts, full_swaps)}
+def comes_alone(it: Refusing, what: str, steps: list[str], count: int) -> None:
+    """Plays a script whose last replies come only if one of `count` allocations is refused.
+
+    Without a refusal, and if another allocation is refused, the script fails or ends.
+    """
+    whole, passed = b"1 cases passed, 0 failed\n", 0
+    with tempfile.TemporaryDirectory(prefix="alloc-failures-") as folder:
+        with open(f"{folder}/alone.script", "w", encoding="ascii") as file:
+            file.writelines(f"{step}\n" for step in ["case\tIt says this.", *steps])
+        words = [program("click_player"), f"{folder}/alone.script"]
+        same(1, ran(words).status, f"{what}: the status without a refusal")
+        for _, run, _, did in it.each(what, words, b""):
+            same(b"", did.err, f"{run}: standard error")
+            if did.status == 0:
+                same(whole, did.out, run)
+                passed += 1
+            elif did.status != 1:
+                is_cut(did, whole, run)
+    same(count, passed, f"{what}: the number of refused allocations with these replies")
+    it.answered += passed
+    it.passed(f"in {what}")
+
+
+def views(it: Refusing) -> None:
+    """Checks a view whose install signal is out of memory.
+
+    It shows the old configuration until it learns of the swap, and the new one from then on.
+    """
+    steps = [
+        "open\troom=10 views=1 Idle -> c :: Counter -> Discard;\topened",
+        "0\tswap Idle -> n :: Counter -> Discard;\tdone",
+        "view\t0 names\tIdle@1 c Discard@3 ",
+        "view\t0 read c.count\tyes",
+        "view\t0 write n.reset_counts\tNoElement",
+        "view\t0 learn 0\tlearned",
+        "view\t0 names\tIdle@1 n Discard@3 ",
+        "view\t0 read c.count\tNoElement",
+        "view\t0 write n.reset_counts\tyes",
+    ]
+    comes_alone(it, "a swap that is not announced to a view", steps, 1)
+
+
+def datagrams(it: Refusing) -> None:
+    """Checks a link that receives sixteen datagrams, of which each cause drops another number.
+
+    If there is no memory for the packet of one datagram, exactly this one is dropped.
+    """
+    steps = [
+        "open\tfeeds=a:4 FromDevice(a) -> Queue(8) -> ToDevice(b);\topened",
+        "links\ta,b b 8\tlinked",
+        "receive\ta !02 01 01 !03 01 {0} 01 !- 01 !{0} 01 {0} !04 01 !05 01\tlink ended, strangers 6, too long 2, no room 3, no memory 1".format("\\*1601(00)"),
+        "counts\ta\treceived 16, strangers 6, too long 2, no room 3, no memory 1, entered 0, sent 0, failed 0",
+        "forward\t0 a\tentered 4, sent 0, lost 0",
+        "forward\t0 b\tentered 0, sent 4, lost 0",
+        "sent\tb\t01,01,01,01",
+    ]
+    comes_alone(it, "a link that drops a datagram without memory for it", steps, 8)
+
+
+RUNS: dict[str, Callable[[Refusing], None]] = {it.__name__: it for it in (session, drivers, swaps, pictures, calls, pcap, scripts, full_swaps, views, datagrams)}
 
 
 def main(words: list[str]) -> int:

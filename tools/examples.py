@@ -327,7 +327,25 @@ def books(row):
     for stray in set(names_in(folder, ".book", ".out", ".session", ".status")) - set(names_in(folder, ".click")):
         fail(f"{folder} has files of an example {stray}, but no {stray}.click")
     is_there(sessions, f"sessions of {folder}")
+    long_book()
     return f"{len(names_in(folder, '.click'))} books made again, {len(sessions)} of them as a session writes it"
+
+
+def long_book():
+    """Checks a book with lines of 8,000 to 50,000 bytes: it is written and replayed completely.
+
+    If the last digit of a long line is another one, the replay reports this line.
+    """
+    text = f"{COUNTER} // " + "".join(map(str, range(2_300)))
+    asked = f"WRITEDATA hotconfig {len(text)}\n{text}READ config\nREADDATA c.count 50000\n{'x' * 50_000}READ c.none\nQUIT\n"
+    came = ran([program("click_prog"), "-e", "", "--book"], asked.encode())
+    lines = [f"write hotconfig {text.replace(' ', '%20')}\tdone", f"read config \tvalue {text.encode().hex()}", f"read c.count {'x' * 50_000}\tvalue 30", "read c.none \trefused NoHandler"]
+    book = "".join(f"0\t{line}\n" for line in lines).replace("%", "\\").encode()
+    same((book, 0), (came.err, came.status), "a book with long lines, and its status")
+    calls = [*command_of("click_prog --calls"), "-e", "", "--replay"]
+    answered(ran(calls, book), "a book with long lines", out=b"replayed 4 calls, all replies the same\n")
+    changed = ran(calls, book.replace(b"39\n", b"38\n", 1))
+    same((True, 1), (changed.out.startswith(b"line 2: "), changed.status), f"a book with another digit in a long line, which prints {changed.out[-200:]!r}")
 
 
 def refused(row):

@@ -79,7 +79,7 @@ SCRIPTS = (
     Part("udp_links", "each packet of a UDP link arrives or is counted", "tools/udp_links.py", (PROG,), ("time",)),
     Part("scripts", "the test scripts of tests/ get the replies that they expect", "tools/test_scripts.sh", (PLAYER,)),
     Part("wrong_scripts", "the player reports each wrong reply, and each fault of a script", "tools/wrong_scripts.py", (PLAYER,)),
-    Part("alloc_scripts", "each allocation of tests/memory.script, and of swaps of a full queue, is refused in turn", "tools/alloc_failures.py scripts full_swaps", (PLAYER,)),
+    Part("alloc_scripts", "each allocation of tests/memory.script, of swaps of a full queue, of a view and of a link is refused in turn", "tools/alloc_failures.py scripts full_swaps views datagrams", (PLAYER,)),
     Part("alloc_session", "each allocation of some sessions is refused in turn", "tools/alloc_failures.py session", (PROG,)),
     Part("alloc_calls", "each allocation of calls and swaps is refused in turn", "tools/alloc_failures.py calls", (PROG,)),
     Part("examples", "the examples of pages and files give the output that they show", "tools/examples.py", (PROG, PLAYER), ("7777",)),

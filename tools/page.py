@@ -1,16 +1,18 @@
 #!/usr/bin/env python3
 """Checks the page of a running router, by plain sockets and in a headless Chromium. By sockets:
 foreign hosts, writes without the header, and slow, large and many requests, while a session is
-answered. In the browser: the picture, live counters, a write that a session sees, and swaps by the
-page and by a session.
+answered. Also where the page listens, large answers to clients that read slowly or close,
+connections that wait, and a run that ends with its session. In the browser: the picture, live
+counters, a write that a session sees, and swaps by the page and by a session.
 
-    tools/page.py [--part sockets|browser] [--shots FOLDER] [PROGRAM [WORD..]]
+    tools/page.py [--part sockets|connections|browser] [--shots FOLDER] [PROGRAM [WORD..]]
     tools/page.py --mock [--wrong WHAT] [--part sockets|browser] [--shots FOLDER]
     tools/page.py --wrongs [WHAT..]
 
-The router is started as PROGRAM WORD.. -e TEXT --live -p P -w 1 --page Q. If no program is given,
-it is the one that the variable PROGRAM names, or else the proved one. With --mock it is
-tools/page_mock.py, which --wrong makes wrong in one point.
+The router is started as PROGRAM WORD.. -e TEXT --live -p P -w 1 --page Q, and for one check
+without --live, -p and -w. If no program is given, it is the one that the variable PROGRAM names, or
+else the proved one. With --mock it is tools/page_mock.py, which --wrong makes wrong in one point.
+The part `connections` needs a program.
 
 --wrongs shows that the checks can fail. It makes the mock wrong in each point, or only in these.
 The check of that point has to fail. --shots writes screenshots of the page over four
@@ -21,6 +23,7 @@ are left out. The last line is 'N passed, M failed', and the status is 1 if a ch
 """
 import argparse
 import base64
+import concurrent.futures
 import contextlib
 import hashlib
 import json
@@ -35,6 +38,7 @@ import time
 
 sys.dont_write_bytecode = True
 import page_mock  # noqa: E402
+from hostile import listeners  # noqa: E402
 
 TOP = os.path.dirname(os.path.dirname(os.path.realpath(__file__)))
 sys.path.insert(0, f"{TOP}/tools/lib")
@@ -101,12 +105,21 @@ class Tally:
 # ---- The router and its clients
 
 
+# The ports of all routers so far. Checks that run in parallel do not share one.
+GIVEN_PORTS = set()
+
+
 def free_ports(count):
-    with contextlib.ExitStack() as all_of_them:
-        probes = [all_of_them.enter_context(socket.socket()) for _ in range(count)]
-        for it in probes:
-            it.bind(("127.0.0.1", 0))
-        return [it.getsockname()[1] for it in probes]
+    """Returns ports that are free and that it has not returned before."""
+    while True:
+        with contextlib.ExitStack() as all_of_them:
+            probes = [all_of_them.enter_context(socket.socket()) for _ in range(count)]
+            for it in probes:
+                it.bind(("127.0.0.1", 0))
+            ports = [it.getsockname()[1] for it in probes]
+            if GIVEN_PORTS.isdisjoint(ports):
+                GIVEN_PORTS.update(ports)
+                return ports
 
 
 def answers(port):
@@ -119,15 +132,21 @@ def answers(port):
 
 
 class Router:
-    """A live router with a driver, sessions at `port` and a page at `page`."""
+    """A router with a page at `page`.
 
-    def __init__(self, command, text, *options):
+    It is live, with a driver and with sessions at `port`. If `is_live` is false, it has one session
+    instead, on its standard input and output.
+    """
+
+    def __init__(self, command, text, *options, is_live=True):
         self.port, self.page = free_ports(2)
-        self.words = ["nice", "-n", "10", *command, "-e", text, "--live", "-p", str(self.port), "-w", "1", "--page", str(self.page), *options]
+        live = ["--live", "-p", str(self.port), "-w", "1"] if is_live else []
+        self.words = ["nice", "-n", "10", *command, "-e", text, *live, "--page", str(self.page), *options]
+        self.pipes = {"stdin": subprocess.DEVNULL} if is_live else {"stdin": subprocess.PIPE, "stdout": subprocess.PIPE}
         self.start()
 
     def start(self):
-        self.process = subprocess.Popen(self.words, stdin=subprocess.DEVNULL)
+        self.process = subprocess.Popen(self.words, **self.pipes)
         until(self.is_there, "the router listens")
 
     def is_there(self):
@@ -304,6 +323,12 @@ def limits_reads(client):
         same(400, client.ask("/write" + query, "POST", b"0", [MARK]).status, f"/write{query}")
 
 
+def writes_without_text(client):
+    answer = client.ask("/write?handler=c.reset_counts", "POST", b"", [MARK])
+    same((200, {"done": True}), (answer.status, answer.json()), "a write of c.reset_counts with an empty body")
+    same({"fault": 520, "text": "520-Write handler 's.switch' error:\r\n520 not a number\r\n"}, client.ask("/write?handler=s.switch", "POST", b"", [MARK]).json(), "a write of s.switch with an empty body")
+
+
 def wants_methods(client):
     for method, target in (("POST", "/"), ("POST", "/read?handler=config"), ("DELETE", "/flat"), ("GET", "/swap"), ("GET", "/write?handler=s.switch"), ("PUT", "/swap")):
         same(405, client.ask(target, method, b"", [MARK]).status, f"{method} {target}")
@@ -351,7 +376,7 @@ def lets_nobody_in(client):
 def refuses_garbage(client):
     own = f"host: 127.0.0.1:{client.router.page}\r\n".encode()
     garbage = {
-        "a beginning of TLS": bytes.fromhex("16030100c8010000c40303") + b"\r\n\r\n",
+        "the first bytes of TLS": bytes.fromhex("16030100c8010000c40303") + b"\r\n\r\n",
         "a line of words": b"what is this\r\n\r\n",
         "a command of a session": b"READ config\r\n\r\n",
         "another version": b"GET / HTTP/3.0\r\n" + own + b"\r\n",
@@ -432,6 +457,7 @@ SOCKETS = {
     "/flat is the flat form": is_flat_form,
     "/read answers in order, values and faults": reads_in_order,
     "queries have 1 to 256 handlers": limits_reads,
+    "a write may have an empty body": writes_without_text,
     "other methods and places are refused": wants_methods,
     "a foreign Host is refused": refuses_hosts,
     "a target elsewhere is refused": refuses_targets,
@@ -450,6 +476,243 @@ def try_sockets(tally, router, session):
     client = Client(router, session)
     for what, act in SOCKETS.items():
         tally.check(what, act, client)
+
+
+# ---- By sockets: connections that wait, each with a router of its own
+
+# The seconds until a request that is not finished is answered 408, and the seconds that a client
+# waits for that, on a busy machine.
+LIMIT, LATEST = 10, 25
+# The interim response that asks for the body of a request.
+CONTINUE = b"HTTP/1.1 100 Continue\r\n\r\n"
+# The number of times that a large answer has the configuration, which has about 900,000 bytes.
+TIMES = 6
+# The maximum part of the time, without work, that a thread of the router runs or waits for a processor.
+# A thread that spins on a busy machine mostly waits for one.
+BUSY = 0.75
+
+
+class Waiting(Router):
+    """A router without tasks, to which connections are made."""
+
+    def __init__(self, command, is_live=True):
+        super().__init__(command, "Idle -> c :: Counter -> Discard;", is_live=is_live)
+
+    def connect(self, buffer=0):
+        """Returns a connection to the page, with a receive buffer of this size if it is not 0."""
+        peer = socket.socket()
+        peer.settimeout(SECONDS)
+        if buffer:
+            peer.setsockopt(socket.SOL_SOCKET, socket.SO_RCVBUF, buffer)
+        peer.connect(("127.0.0.1", self.page))
+        return peer
+
+    def reads_on(self, peer):
+        """Gives a connection a large receive buffer, with which the rest comes fast."""
+        peer.setsockopt(socket.SOL_SOCKET, socket.SO_RCVBUF, 1 << 20)
+
+    def head(self, target, *fields):
+        return "\r\n".join([f"GET {target} HTTP/1.1", f"host: 127.0.0.1:{self.page}", *fields, "", ""]).encode()
+
+    def busy_seconds(self):
+        """Returns the seconds that each thread ran or waited for a processor so far."""
+        found = {}
+        for thread in os.listdir(f"/proc/{self.process.pid}/task"):
+            with open(f"/proc/{self.process.pid}/task/{thread}/schedstat", encoding="ascii") as row:
+                found[thread] = sum(map(int, row.read().split()[:2])) / 1e9
+        return found
+
+    def install_large(self, numbers=165_000):
+        """Makes a configuration with a comment of this many numbers the running one, and returns it."""
+        text = "Idle -> c :: Counter -> Discard; // " + "".join(map(str, range(numbers)))
+        session = Session(self)
+        same(b"200 Write handler 'hotconfig' OK\r\n", session.write("hotconfig", text), "a swap to a large configuration")
+        session.close()
+        return text
+
+
+def answer_on(peer, rest=b""):
+    """Returns the next response of a connection that stays open."""
+    ends = time.monotonic() + SECONDS
+    while b"\r\n\r\n" not in rest:
+        rest += some_of(peer, ends)
+    head, _, body = rest.partition(b"\r\n\r\n")
+    length = int(re.search(rb"\r\ncontent-length: (\d+)", head)[1])
+    while len(body) < length:
+        body += some_of(peer, ends)
+    same(length, len(body), "the bytes of a body")
+    return Answer(head + b"\r\n\r\n" + body)
+
+
+def some_of(peer, ends):
+    piece = peer.recv(65536)
+    if not piece or time.monotonic() > ends:
+        raise Wrong("a response is not complete" if piece else "a connection ends before its response is complete")
+    return piece
+
+
+def listens_here_alone(command):
+    """Checks the address of the listener, in /proc/net/tcp and /proc/net/tcp6."""
+    with Waiting(command) as router:
+        same(["0100007F"], listeners(router.page), "the addresses at which the page listens")
+        router.connect().close()
+
+
+def answers_slow_readers(command):
+    """Checks that a large answer is complete, and that the router waits for its reader.
+
+    Meanwhile other connections are answered, and no thread of the router spins.
+    """
+    with Waiting(command) as router:
+        text = router.install_large()
+        with router.connect(buffer=4096) as peer:
+            peer.sendall(router.head("/read?" + "&".join(["handler=config"] * TIMES)))
+            until(lambda: select.select([peer], [], [], 0)[0], "a large answer begins")
+            time.sleep(0.5)
+            began, before = time.monotonic(), router.busy_seconds()
+            time.sleep(2)
+            busy = max(seconds - before.get(thread, 0) for thread, seconds in router.busy_seconds().items())
+            part = busy / (time.monotonic() - began)
+            if part > BUSY:
+                raise Wrong(f"while a client reads nothing, a thread of the router runs or waits for a processor for {part:.0%} of the time")
+            same(b'[{"value":"1"}]', answer_on_new(router, "/read?handler=version"), "another connection's answer meanwhile")
+            router.reads_on(peer)
+            same([{"value": text}] * TIMES, answer_on(peer).json(), "a large answer")
+            peer.sendall(router.head("/read?handler=version"))
+            same([{"value": "1"}], answer_on(peer).json(), "the next answer on that connection")
+
+
+def answer_on_new(router, target):
+    with router.connect() as peer:
+        peer.sendall(router.head(target))
+        return answer_on(peer).body
+
+
+def closes_after_all(command):
+    """Checks that the last answer of a connection is written completely before it is closed.
+
+    The client sends more than its request, and reads late. The router has to drop what it sent, as
+    a connection that is closed with unread input loses its output.
+    """
+    with Waiting(command) as router:
+        text = router.install_large()
+        for more in (b"", b"x" * 50_000):
+            with router.connect(buffer=4096) as peer:
+                peer.sendall(router.head("/read?" + "&".join(["handler=config"] * TIMES), "connection: close") + more)
+                time.sleep(0.5)
+                router.reads_on(peer)
+                answer = Answer(received(peer))
+            same(["close"], answer.field("connection"), "the field connection of the last answer")
+            same(answer.field("content-length"), [str(len(answer.body))], f"the length of the last answer, with {len(more)} bytes after the request")
+            same([{"value": text}] * TIMES, answer.json(), f"the last answer, with {len(more)} bytes after the request")
+
+
+def closes_after_late_input(command):
+    """Checks that the last answer is complete if the client sends more after it was written.
+
+    The answer fits into the send buffer of the router, which has then ended its output. If it had
+    ended its input too, the further bytes would reset the connection and lose the answer.
+    """
+    with Waiting(command) as router:
+        # An answer of 89 KB.
+        text = router.install_large(20_000)
+        with router.connect(buffer=4096) as peer:
+            peer.sendall(router.head("/read?handler=config", "connection: close"))
+            time.sleep(0.5)
+            peer.sendall(b"x" * 1000)
+            time.sleep(0.3)
+            router.reads_on(peer)
+            answer = Answer(received(peer))
+        same(answer.field("content-length"), [str(len(answer.body))], "the length of the last answer, with 1000 bytes after it was written")
+        same([{"value": text}], answer.json(), "the last answer, with 1000 bytes after it was written")
+
+
+def answers_two_at_once(command):
+    """Checks that two requests in one segment get two answers, in order."""
+    with Waiting(command) as router, router.connect() as peer:
+        peer.sendall(router.head("/read?handler=version") + router.head("/read?handler=c.count", "connection: close"))
+        bodies = re.findall(rb"\r\n\r\n(\[.*?\])", received(peer))
+        same([b'[{"value":"1"}]', b'[{"value":"0"}]'], bodies, "the answers to two requests in one segment")
+
+
+def keeps_idle(command):
+    """Checks that a connection stays open without a request for longer than a request may take.
+
+    It then gets no byte, and the next request is answered.
+    """
+    with Waiting(command) as router, router.connect() as peer:
+        for pause in (LIMIT + 2, 0.5, 0):
+            peer.sendall(router.head("/read?handler=version"))
+            same([{"value": "1"}], answer_on(peer).json(), "an answer")
+            if select.select([peer], [], [], pause)[0]:
+                raise Wrong(f"within {pause} s after an answer the connection got {peer.recv(200)!r}")
+
+
+def ends_unfinished(command):
+    """Checks that a request without its end gets status 408 and its connection ends, in time.
+
+    That the router asked for the rest of a request by an interim response gives it no more time.
+    """
+    with Waiting(command) as router:
+        own = f"host: 127.0.0.1:{router.page}\r\n".encode()
+        post = b"POST /write?handler=c.reset_counts HTTP/1.1\r\n" + own + b"x-click-page: 1\r\ncontent-length: 4\r\n"
+        unfinished = {
+            "one byte of a request": b"G",
+            "a head without its end": b"GET / HTTP/1.1\r\n" + own,
+            "a body without its end": post + b"\r\nabc",
+            "a body that was asked for": post + b"expect: 100-continue\r\n\r\n",
+            "a head after an answer": b"GET / HTTP/1.1\r\n",
+        }
+        with contextlib.ExitStack() as all_of_them:
+            peers = {what: all_of_them.enter_context(router.connect()) for what in unfinished}
+            last = peers["a head after an answer"]
+            last.sendall(router.head("/read?handler=version"))
+            same([{"value": "1"}], answer_on(last).json(), "an answer")
+            began = time.monotonic()
+            for what, peer in peers.items():
+                peer.sendall(unfinished[what])
+            for what, peer in peers.items():
+                came = received(peer, began + LATEST - time.monotonic())
+                interim = CONTINUE if what == "a body that was asked for" else b""
+                same(interim, came[:len(interim)], f"the interim response to {what}")
+                same(408, Answer(came[len(interim):]).status, what)
+                if time.monotonic() - began < LIMIT - 1:
+                    raise Wrong(f"{what} is answered 408 after {time.monotonic() - began:.1f} s")
+
+
+def ends_with_session(command):
+    """Checks that a run without --live ends with its session, though its page has a connection."""
+    with Waiting(command, is_live=False) as router, router.connect() as peer:
+        # The server loop runs once a request is answered.
+        peer.sendall(router.head("/read?handler=version"))
+        same([{"value": "1"}], answer_on(peer).json(), "an answer")
+        try:
+            out, _ = router.process.communicate(b"QUIT\n", timeout=SECONDS)
+        except subprocess.TimeoutExpired:
+            raise Wrong(f"a run without --live does not end within {SECONDS} s after QUIT") from None
+        same((b"Click::ControlSocket/1.3\r\n200 Goodbye!\r\n", 0), (out, router.process.returncode), "the output and the status of a run without --live")
+
+
+CONNECTIONS = {
+    "the page listens at 127.0.0.1 alone": listens_here_alone,
+    "a large answer waits for a slow reader": answers_slow_readers,
+    "the last answer is complete before its connection closes": closes_after_all,
+    "the last answer is complete if its client still sends": closes_after_late_input,
+    "two requests at once get two answers": answers_two_at_once,
+    "a connection without a request stays open": keeps_idle,
+    "a request that is not finished gets 408": ends_unfinished,
+    "a run without --live ends with its session": ends_with_session,
+}
+
+
+@contextlib.contextmanager
+def connections_tried(tally, command):
+    """Makes the checks of connections in threads, in parallel with what is done meanwhile."""
+    with concurrent.futures.ThreadPoolExecutor(len(CONNECTIONS)) as pool:
+        tries = {what: pool.submit(act, command) for what, act in CONNECTIONS.items()}
+        yield
+        for what, it in tries.items():
+            tally.check(what, it.result)
 
 
 # ---- In the browser: what an operator sees and does
@@ -722,16 +985,26 @@ def try_wrongs(names):
 
 def try_all(command, given):
     tally = Tally()
+    with contextlib.ExitStack() as beside:
+        if given.part == "connections" or not (given.mock or given.part):
+            beside.enter_context(connections_tried(tally, command))
+        if given.part != "connections":
+            try_router(tally, command, given)
+    return tally
+
+
+def try_router(tally, command, given):
+    """Makes the checks by sockets and in the browser, of one router."""
     program = shutil.which("chromium")
     with Router(command, WATCHED) as router:
         session = Session(router)
         if given.part != "browser":
             try_sockets(tally, router, session)
         if given.part == "sockets":
-            return tally
+            return
         if not program:
             print("left out: the part browser, because chromium is not installed (apt-get install chromium)")
-            return tally
+            return
         browser = Browser(program)
         try:
             try_browser(tally, browser, router, session, command)
@@ -739,7 +1012,6 @@ def try_all(command, given):
                 take_shots(browser, command, given.shots)
         finally:
             browser.close()
-    return tally
 
 
 def main():
@@ -747,7 +1019,7 @@ def main():
     words.add_argument("--mock", action="store_true")
     words.add_argument("--wrong", choices=page_mock.WRONGS)
     words.add_argument("--wrongs", nargs="*", metavar="WHAT")
-    words.add_argument("--part", choices=["sockets", "browser"])
+    words.add_argument("--part", choices=["sockets", "connections", "browser"])
     words.add_argument("--shots")
     words.add_argument("command", nargs=argparse.REMAINDER)
     given = words.parse_args()

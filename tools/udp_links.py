@@ -2,14 +2,18 @@
 """Checks links from outside, with plain UDP sockets. Of 200,000 packets, half in each direction,
 each comes out exactly once and in order, or is counted as dropped. Other cases have datagrams of
 all lengths and from other senders, links at 127.0.0.2, an endless source and a missing peer. There
-are also a swap that removes a device, a flood, and an idle router. The counts are printed every
-second, even if no process reads them.
+are also isolated packets, which are carried at once, a swap that removes a device, a flood, and an
+idle router. Runs end with full feeds and with packets that come last, and go on without memory for
+packets. The counts are printed every second, even if no process reads them.
 
     tools/udp_links.py [CASE..]
 
 The program must have been built. PROGRAM names another program to check, and PACKETS another number
 of packets than 200,000. Each case starts the program on free ports of 127.0.0.1 and ends within
 some 12 seconds. A failure is printed, and ends the script with status 1.
+
+Two cases preload a library into the program, which the C compiler cc makes. The case `blocked` runs
+in a network namespace of its own, and is left out if none with veth is available.
 
 The program is not to blame for datagrams that the kernel drops when a socket's buffer is full. The
 kernel counts them for each socket, and the checks add this count.
@@ -20,6 +24,7 @@ import os
 import re
 import signal
 import socket
+import statistics
 import struct
 import subprocess
 import sys
@@ -48,6 +53,9 @@ FEWEST_READS, LONGEST_WAIT = 50, 2
 LONGEST_END = 5
 # The maximum number of seconds that peers take for all their packets, on a busy machine.
 LONGEST_WORK = 120
+# The number of isolated packets, the seconds between two of them, and the limit of their median time
+# in seconds. A busy machine delays packets, and so a higher median is measured again, up to TRIES.
+ISOLATED, INTERVAL, MAX_MEDIAN, TRIES = 60, 0.03, 0.009, 5
 # The number of seconds without a packet after which no more packets are expected.
 QUIET = 5
 # The maximum number of packets on their way in each direction: fewer than a feed, a queue of the
@@ -151,14 +159,14 @@ class Router:
     program ends with it.
     """
 
-    def __init__(self, text, links, *options, port=None, said=subprocess.PIPE):
+    def __init__(self, text, links, *options, port=None, said=subprocess.PIPE, env=None):
         words = [PROGRAM, "--live", "-e", text, *options]
         for link in links:
             words += ["--link", link.word()]
         if port:
             words += ["-p", str(port), "-n", "4"]
         self.links = links
-        self.process = subprocess.Popen(words, stdin=subprocess.PIPE, stdout=subprocess.PIPE, stderr=said)
+        self.process = subprocess.Popen(words, stdin=subprocess.PIPE, stdout=subprocess.PIPE, stderr=said, env=env)
         try:
             if port:
                 until(lambda: listeners(port) or self.process.poll() is not None, "the program does not listen")
@@ -205,12 +213,21 @@ class Router:
         Checks that they are all that the program prints.
         """
         until(lambda: all(is_heard(it) for it in self.links), "a link does not read its datagrams")
-        self.session.socket.sendall(b"QUIT\n")
+        return self.ends_now(b"QUIT\n")
+
+    def ends_now(self, sent, late=lambda: None):
+        """Ends the session by these bytes, which are swaps and QUIT, and calls `late`.
+
+        Returns the counts of each link, as `ends` does.
+        """
+        self.session.socket.sendall(sent)
+        late()
         try:
             out, said = self.process.communicate(timeout=SECONDS)
         except subprocess.TimeoutExpired:
             raise Wrong("the program does not end with its session")
-        same((b"200 Goodbye!\r\n", 0), (self.session.rest + out, self.process.returncode), "the end, and its status")
+        replies = b"200 Write handler 'hotconfig' OK\r\n" * sent.count(b"WRITEDATA hotconfig") + b"200 Goodbye!\r\n"
+        same((replies, 0), (self.session.rest + out, self.process.returncode), "the end, and its status")
         tellings = tellings_of(said, self.links)
         same(1, len(tellings), "how many times the program prints its counts")
         return tellings[0]
@@ -329,6 +346,15 @@ def takes_all(link, way, count, reached=None):
     return came
 
 
+def gives_heard(link, packets):
+    """Sends packets, and waits after every 50 and the last one until the program has read them."""
+    count = len(packets)
+    for number, packet in enumerate(packets):
+        link.give(packet)
+        if number % 50 == 49 or number == count - 1:
+            until(lambda: is_heard(link), "a link does not read its datagrams")
+
+
 def is_carried(source, sink, numbers, way="one"):
     """Sends packets one at a time, and checks that each comes out."""
     for number in numbers:
@@ -368,6 +394,29 @@ def carrying():
         same(counts[there].sent, came[there] + lost[sink.port], f"what was sent, and what came {what}")
         if came[there] < count * 9 // 10:
             raise Wrong(f"of {count} packets only {came[there]} came {what}")
+
+
+def isolated():
+    """Checks that an isolated packet wakes the forwarder thread, and so takes less than 9 ms.
+
+    That is the median of 60 packets. The forwarder thread alone, which sleeps up to 20 ms, would
+    take longer.
+    """
+    a, b, medians = Link("a"), Link("b"), []
+
+    def seconds(number):
+        time.sleep(INTERVAL)
+        began = time.monotonic()
+        is_carried(a, b, [number])
+        return time.monotonic() - began
+
+    with Router(PLAIN, [a, b]):
+        for _ in range(TRIES):
+            medians.append(statistics.median(map(seconds, range(ISOLATED))))
+            if medians[-1] < MAX_MEDIAN:
+                return
+    found = ", ".join(f"{1000 * it:.1f}" for it in medians)
+    raise Wrong(f"isolated packets take {found} ms by the median of {ISOLATED}, and not less than {1000 * MAX_MEDIAN:.0f} ms")
 
 
 def sizes():
@@ -497,12 +546,13 @@ def flooded(link, packet, seconds, sender=None):
     return count
 
 
-def slow_text():
-    """Returns a configuration that copies each packet some four thousand times.
+def slow_text(places=10, sink="b"):
+    """Returns a configuration that copies each packet some four thousand times, and stores it in a
+    queue of this capacity before a device.
 
     That takes 100 microseconds or more for a long packet.
     """
-    chain = "FromDevice(a) -> c :: Counter" + "".join(f" -> t{k} :: Tee(240); t{k}" for k in range(16)) + " -> q :: Queue(10) -> ToDevice(b); d :: Discard;"
+    chain = "FromDevice(a) -> c :: Counter" + "".join(f" -> t{k} :: Tee(240); t{k}" for k in range(16)) + f" -> q :: Queue({places}) -> ToDevice({sink}); d :: Discard;"
     return chain + "".join(f" t{k} [{n}] -> d;" for k in range(16) for n in range(1, 240))
 
 
@@ -609,7 +659,221 @@ def unread():
         router.session.read(b"c.count")
 
 
-CASES = {case.__name__: case for case in (refused, sizes, addresses, endless, nobody, away, telling, unread, flood, carrying)}
+def numbered(number):
+    """Returns a long packet with this number."""
+    return struct.pack(">Q", number).ljust(LONGEST, b"n")
+
+
+def ending():
+    """Checks a run that ends while its feed is full and more datagrams come.
+
+    Each packet that waits then enters and leaves, in order, and each datagram that the program
+    received is in exactly one count.
+    """
+    a, text = Link("a"), slow_text(1000, "a").encode()
+    is_over, numbers = threading.Event(), []
+
+    def gives():
+        number = PLACES + 5
+        while not is_over.is_set():
+            a.give(numbered(number))
+            number += 1
+
+    def takes():
+        a.socket.settimeout(0.3)
+        while True:
+            try:
+                packet = a.take()
+            except TimeoutError:
+                if is_over.is_set():
+                    return
+            else:
+                number = struct.unpack(">Q", packet[:8])[0]
+                same(numbered(number), packet, "a packet of a run that ends")
+                numbers.append(number)
+
+    with Router("Idle -> ToDevice(a);", [a]) as router:
+        gives_heard(a, [numbered(number) for number in range(PLACES + 5)])
+        threads = [threading.Thread(target=gives), threading.Thread(target=takes)]
+        for it in threads:
+            it.start()
+        try:
+            # The feed is full when this swap makes its packets enter. The receiver, which is never
+            # without a datagram, ends at once.
+            (counts,) = router.ends_now(b"WRITEDATA hotconfig %d\n%sQUIT\n" % (len(text), text))
+        finally:
+            is_over.set()
+            for it in threads:
+                it.join()
+        lost = lost_at(a.port)
+    what = f"in a run that ended with a full feed, with {counts} and {lost} that the kernel dropped"
+    adds_up(counts)
+    same((0, 0, 0), counts[1:3] + counts[4:5], f"from elsewhere, too long and no memory {what}")
+    same(counts.entered, counts.sent + counts.failed, f"the packets that left {what}")
+    same(counts.sent, len(numbers) + lost, f"the packets that were sent, and that came {what}")
+    same(True, numbers == sorted(set(numbers)), f"whether each packet came once and in order {what}")
+    if counts.room < 5 or counts.entered < PLACES:
+        raise Wrong(f"the feed was not full {what}")
+
+
+# A library that affects the allocations of the room for a packet, of LONGEST bytes, in a program
+# whose name begins with click_. Its state is the byte in the file that the variable ROOMS names: `s`
+# for slow, `r` for refused, or another one.
+ROOMS = r"""
+#define _GNU_SOURCE
+#include <dlfcn.h>
+#include <errno.h>
+#include <fcntl.h>
+#include <stdlib.h>
+#include <string.h>
+#include <sys/mman.h>
+#include <unistd.h>
+static volatile char *state;
+__attribute__((constructor)) static void begin(void)
+{
+    if (strncmp(program_invocation_short_name, "click_", 6) == 0) state = mmap(0, 1, PROT_READ, MAP_SHARED, open(getenv("ROOMS"), O_RDONLY), 0);
+}
+void *malloc(size_t size)
+{
+    static void *(*real)(size_t);
+    if (!real) real = (void *(*)(size_t))dlsym(RTLD_NEXT, "malloc");
+    if (size == 1600 && state && *state == 'r') return 0;
+    if (size == 1600 && state && *state == 's') usleep(50000);
+    return real(size);
+}
+"""
+
+
+class Rooms:
+    """The library ROOMS, and its state."""
+
+    def __init__(self):
+        self.folder = tempfile.TemporaryDirectory(prefix="udp-links-")
+        state, library = (f"{self.folder.name}/{it}" for it in ("state", "rooms.so"))
+        self.state = os.open(state, os.O_CREAT | os.O_WRONLY)
+        self.set("n")
+        words = ["cc", "-O1", "-shared", "-fPIC", "-x", "c", "-o", library, "-", "-ldl"]
+        if subprocess.run(words, input=ROOMS.encode(), check=False).returncode:
+            raise Wrong("the library for allocations does not compile")
+        self.env = {**os.environ, "LD_PRELOAD": library, "ROOMS": state}
+
+    def set(self, state):
+        os.pwrite(self.state, state.encode(), 0)
+
+    def __enter__(self):
+        return self
+
+    def __exit__(self, *_):
+        os.close(self.state)
+        self.folder.cleanup()
+
+
+# The number of runs that end while a packet comes.
+LATE_RUNS = 10
+
+
+def ends_late(rooms, number):
+    """Ends a run while a packet comes, and returns whether the program received it.
+
+    If it did, the packet enters and leaves.
+    """
+    a = Link("a")
+    with Router("FromDevice(a) -> Queue -> ToDevice(a);", [a], env=rooms.env) as router:
+        rooms.set("s")
+        time.sleep(0.1 + 0.007 * number)
+        (counts,) = router.ends_now(b"QUIT\n", lambda: a.give(packet_of("late", number)))
+        rooms.set("n")
+    adds_up(counts)
+    same(entering(counts.received, counts.received), counts, "the counts of a run that ended while a packet came")
+    if counts.received:
+        same(packet_of("late", number), a.take(), "a packet that came while the run ended")
+    return counts.received == 1
+
+
+def late():
+    """Checks runs that end while a packet comes, mostly during a sweep that finds no work.
+
+    Each allocation of room for a packet takes 50 ms, which makes sweeps slow.
+    """
+    with Rooms() as rooms:
+        came = sum(ends_late(rooms, number) for number in range(LATE_RUNS))
+    if not came:
+        raise Wrong(f"in {LATE_RUNS} runs no packet came before the end")
+
+
+def memory():
+    """Checks links that are out of memory for a while, and a count of drops for each cause.
+
+    Neither the receiver nor the forwarder ends, and later packets are carried. The numbers of drops
+    are different for each cause, so that no two are exchanged.
+    """
+    a, b, stranger, count = Link("a"), Link("b"), bound(), PLACES + 7
+    with Rooms() as rooms, Router(PLAIN, [a, b], env=rooms.env) as router:
+        for sender, size, times in ((stranger, 5, 2), (a.socket, LONGEST + 1, 3)):
+            for _ in range(times):
+                sender.sendto(b"x" * size, (HOST, a.here))
+        is_carried(a, b, range(10))
+        rooms.set("r")
+        for _ in range(4):
+            a.give(b"without memory")
+        until(lambda: is_heard(a), "a link without memory does not read its datagrams")
+        # The receiver drops the last packet, and the forwarder makes some sweeps, which fail.
+        time.sleep(0.3)
+        rooms.set("n")
+        is_carried(a, b, range(10, 20))
+        router.session.swap("Idle -> q :: Queue(2000) -> ToDevice(b);")
+        gives_heard(a, [packet_of("away", number) for number in range(count)])
+        # The packets that wait enter after this swap, at the end.
+        text = b"FromDevice(a) -> q :: Queue(2000) -> ToDevice(b);"
+        counts, out = router.ends_now(b"WRITEDATA hotconfig %d\n%sQUIT\n" % (len(text), text))
+        came = takes_all(b, "away", PLACES)
+        lost_there = lost_at(b.port)
+    entered = PLACES + 20
+    wanted = Counts(20 + 2 + 3 + 4 + count, 2, 3, 7, 4, entered, 0, 0)
+    same([wanted, leaving(entered)], [counts, out], "the counts of a run with another number of drops for each cause")
+    same(PLACES, came + lost_there, "the packets that waited at the end, and that came")
+
+
+# The commands that make a network namespace in which packets to 10.9.9.2 wait for a neighbour, and
+# so fill the send buffer of their socket.
+NAMESPACE = ("unshare", "--map-root-user", "--net", "sh", "-e", "-c")
+NEIGHBOUR = """
+ip link set lo up
+ip link add v0 type veth peer name v1
+ip addr add 10.9.9.1/24 dev v0
+ip link set v0 up
+ip link set v1 up
+echo 100000000 > /proc/sys/net/ipv4/neigh/v0/unres_qlen_bytes
+echo 60 > /proc/sys/net/ipv4/neigh/v0/mcast_solicit
+"""
+
+
+def blocked():
+    """Checks that a link with a full send buffer does not delay another link."""
+    if subprocess.run([*NAMESPACE, NEIGHBOUR], capture_output=True).returncode:
+        print("left out: the case blocked, because no network namespace with veth is available")
+        return
+    inside = f'{NEIGHBOUR}exec "$0" "$@"'
+    ran = subprocess.run([*NAMESPACE, inside, sys.executable, os.path.realpath(__file__), "blocked_inside"], stderr=subprocess.PIPE)
+    if ran.returncode:
+        raise Wrong(ran.stderr.decode().removeprefix("udp_links.py: blocked_inside: ").rstrip())
+
+
+def blocked_inside():
+    """Checks that a link with a full send buffer does not delay another link, in a namespace."""
+    a, b = Link("a"), Link("b", there="10.9.9.2:9", host="10.9.9.1", is_open=False)
+    with Router("s :: InfiniteSource(ab, 400, 64) -> q :: Queue(1000) -> ToDevice(b); FromDevice(b) -> Discard; FromDevice(a) -> Queue -> ToDevice(a);", [a, b]) as router:
+        until(lambda: router.session.read(b"s.count") == b"400", "the source does not emit its packets")
+        began = time.monotonic()
+        is_carried(a, a, range(20))
+        seconds = time.monotonic() - began
+    if seconds > LONGEST_WAIT:
+        raise Wrong(f"next to a link with a full send buffer, 20 packets took {seconds:.1f} s")
+
+
+CASES = {case.__name__: case for case in (refused, isolated, sizes, addresses, endless, nobody, away, telling, unread, memory, late, ending, blocked, flood, carrying)}
+# What the case `blocked` runs in its namespace.
+NAMED = {case.__name__: case for case in (blocked_inside,)}
 
 
 def main(words):
@@ -619,9 +883,9 @@ def main(words):
     for name in words or CASES:
         try:
             try:
-                CASES[name]()
+                (CASES | NAMED)[name]()
             except PortTaken:
-                CASES[name]()
+                (CASES | NAMED)[name]()
         except (Wrong, OSError, AttributeError, ValueError, StopIteration, subprocess.TimeoutExpired) as error:
             print(f"udp_links.py: {name}: {error}", file=sys.stderr)
             return 1

@@ -355,6 +355,9 @@ network() {
     links_wrong away 'another count of what found no room' "$(retold 's/no room /&1/')"
     links_wrong telling 'no lines while it runs' "$(exchanged 1 3600)"
     links_wrong unread 'an end of all packets' '(sleep 2; kill -STOP $$) &' 'exec "$program" "$@"'
+    links_wrong memory 'other causes of its drops' "$(retold 's/no room 7, no memory 4/no room 4, no memory 7/')"
+    links_wrong late 'an end before the last packet enters' "$(retold 's/entered 1, sent 1/entered 0, sent 0/')"
+    links_wrong ending 'an end while packets wait' "$(retold 's/entered [0-9]*, sent [0-9]*/entered 320, sent 320/')"
     links_wrong flood 'more in its counts than entered' "$(retold 's/entered /&1/')"
     links_wrong carrying 'a packet in a thousand that is lost' "$(relayed loses)"
     # The gateway between two networks, if this machine has what it needs.
