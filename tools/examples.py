@@ -637,7 +637,7 @@ TABLE = (
     Row(["docs/CALLS.md"], ["click_prog --calls"], dialogue),
     Row(["docs/PCAP.md"], ["click_prog --pcap"], captures),
     Row(["docs/LINKS.md"], ["click_prog"], script),
-    Row(["docs/PICTURE.md", "examples", "examples/calls", "examples/gateway", "examples/pcap"], ["click_prog"], pictures),
+    Row(["docs/PICTURE.md", "examples", "examples/calls", "examples/gateway", "examples/ethernet", "examples/pcap"], ["click_prog"], pictures),
     Row(["docs/FEEDS.md", "crates/click_tests/src/drivers.rt"], [], driver),
     Row(["docs/FAULTS.md", *FAULT_KINDS], ["click_prog", "click_player"], faults),
     Row(["docs/ELEMENTS.md"], ["click_prog --calls"], sections),

@@ -36,8 +36,8 @@ INTRODUCTION = f"""\
 
 This page lists what each test of the gate shows, for engineers who change the code.
 `{HERE}` writes it from sentences in the sources of the tests, so change those. The
-expected values come from Click's manual, from the pages, or from arithmetic done by hand. A test
-shows what no contract states. The contracts are in the READMEs of the crates, which
+expected values come from Click's manual, from RFCs, from the pages, or from arithmetic done by
+hand. A test shows what no contract states. The contracts are in the READMEs of the crates, which
 [DEFINITIONS.md](DEFINITIONS.md) lists.
 """
 

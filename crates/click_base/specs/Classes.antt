@@ -1,5 +1,5 @@
--- The thirty element classes, their order and their names (Click element reference).
-use Rattle.std.specs.Prelude.{ℕ, List, [], ◌∷◌, codes, find, Option}
+-- The element classes, their order and their names (Click element reference).
+use Rattle.std.specs.Prelude.{ℕ, List, [], ◌∷◌, codes, find, Option, Bool, true, false}
 use Rattle.std.specs.Str.{bytes_eq}
 use Rattle.click_base.specs.declared.class.Class.{Class}
 use Rattle.click_base.specs.declared.class.Class.TheVariants as class
@@ -12,6 +12,18 @@ classes =
     class.PullNull ∷ class.Suppressor ∷ class.Paint ∷ class.PaintTee ∷ class.Strip ∷ class.CheckLength ∷ class.Classifier ∷
     class.GetIPAddress ∷ class.StaticIPLookup ∷ class.CheckIPHeader ∷ class.DecIPTTL ∷ class.EtherEncap ∷ class.InfiniteSource ∷
     class.FromDevice ∷ class.ToDevice ∷ []
+
+-- the four classes of the gateway package, which are visible only after `require(gateway);`
+abbrev pub gateway_classes : List Class
+gateway_classes = class.ARPResponder ∷ class.ARPQuerier ∷ class.ICMPError ∷ class.ICMPPingResponder ∷ []
+
+-- whether a class is of the gateway package
+abbrev pub is_gateway : Class → Bool
+is_gateway class.ARPResponder = true
+is_gateway class.ARPQuerier = true
+is_gateway class.ICMPError = true
+is_gateway class.ICMPPingResponder = true
+is_gateway _ = false
 
 -- the name that stands for the class in configurations
 abbrev pub name : Class → List ℕ
@@ -45,7 +57,15 @@ name class.EtherEncap = codes "EtherEncap"
 name class.InfiniteSource = codes "InfiniteSource"
 name class.FromDevice = codes "FromDevice"
 name class.ToDevice = codes "ToDevice"
+name class.ARPResponder = codes "ARPResponder"
+name class.ARPQuerier = codes "ARPQuerier"
+name class.ICMPError = codes "ICMPError"
+name class.ICMPPingResponder = codes "ICMPPingResponder"
 
--- the class with this name, if there is one
+-- the class with this name, if it is one of the thirty that are always visible
 unfoldable pub class_of : List ℕ → Option Class
 class_of text = find (λ c. bytes_eq (name c) text) classes
+
+-- the class of the gateway package with this name, if there is one
+unfoldable pub gateway_class_of : List ℕ → Option Class
+gateway_class_of text = find (λ c. bytes_eq (name c) text) gateway_classes

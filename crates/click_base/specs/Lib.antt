@@ -2,3 +2,4 @@ pub mod Blanks
 pub mod Classes
 pub mod Dotted
 pub mod NameLists
+pub mod Numbers

@@ -1,8 +1,8 @@
-//! The thirty element classes and their names.
+//! The element classes and their names.
 
 ghost use Rattle.std.specs.Prelude.{◌≡◌};
 ghost use Rattle.std.specs.Str.{bytes_eq};
-ghost use Rattle.click_base.specs.Classes.{name as name_of, class_of};
+ghost use Rattle.click_base.specs.Classes.{name as name_of, class_of, gateway_class_of};
 
 /// An element class (Click element reference).
 #[derive(Clone, Copy, Debug, PartialEq, Eq)]
@@ -37,9 +37,13 @@ pub enum Class {
     InfiniteSource,
     FromDevice,
     ToDevice,
+    ARPResponder,
+    ARPQuerier,
+    ICMPError,
+    ICMPPingResponder,
 }
 
-/// The classes in the order of Click's element reference.
+/// The thirty classes that are always visible, in the order of Click's element reference.
 pub const CLASSES: [Class; 30] = [
     Class::Queue,
     Class::FrontDropQueue,
@@ -71,6 +75,14 @@ pub const CLASSES: [Class; 30] = [
     Class::InfiniteSource,
     Class::FromDevice,
     Class::ToDevice,
+];
+
+/// The classes of the gateway package. They are visible only after `require(gateway);`.
+pub const GATEWAY_CLASSES: [Class; 4] = [
+    Class::ARPResponder,
+    Class::ARPQuerier,
+    Class::ICMPError,
+    Class::ICMPPingResponder,
 ];
 
 impl Class {
@@ -109,6 +121,10 @@ impl Class {
             Class::InfiniteSource => b"InfiniteSource",
             Class::FromDevice => b"FromDevice",
             Class::ToDevice => b"ToDevice",
+            Class::ARPResponder => b"ARPResponder",
+            Class::ARPQuerier => b"ARPQuerier",
+            Class::ICMPError => b"ICMPError",
+            Class::ICMPPingResponder => b"ICMPPingResponder",
         }
     }
 }
@@ -123,10 +139,21 @@ fn is_named(class: Class, name: &[u8]) -> bool
     own.len() == name.len() && own == name
 }
 
-/// Returns the class with this name, if there is one.
+/// Returns the class with this name, if it is one of the thirty that are always visible.
 #[tactic(auto, unfolding(crate::specs::Classes::class_of))]
 pub fn class_of(name: &[u8]) -> Option<Class>
     ensures { result ≡ class_of name.now }
 {
     CLASSES.iter().copied().find(|class| is_named(*class, name))
+}
+
+/// Returns the class of the gateway package with this name, if there is one.
+#[tactic(auto, unfolding(crate::specs::Classes::gateway_class_of))]
+pub fn gateway_class_of(name: &[u8]) -> Option<Class>
+    ensures { result ≡ gateway_class_of name.now }
+{
+    GATEWAY_CLASSES
+        .iter()
+        .copied()
+        .find(|class| is_named(*class, name))
 }

@@ -1,10 +1,15 @@
 -- What an element does with a packet (Click element reference). `inputs` and `outputs` are the
 -- numbers of its ports.
-use Rattle.std.specs.Prelude.{ℕ, ◌+◌, ◌-◌, ◌^◌, ◌==◌, nat_le, nat_lt, min, max, Bool, true, false, ◌&&◌, List, [], ◌∷◌, ◌++◌, length, take, drop, position, slice_index, slice_index_or, Option, Some, None, if◌then◌else◌}
+use Rattle.std.specs.Prelude.{ℕ, ◌+◌, ◌-◌, ◌^◌, ◌==◌, nat_le, nat_lt, min, max, Bool, true, false, ◌&&◌, List, [], ◌∷◌, ◌++◌, length, take, drop, position, slice_index, slice_index_or, slice_get, slice_set, Option, Some, None, is_some, if◌then◌else◌}
 use Rattle.std.specs.Str.{bytes_eq}
 use Rattle.click_packet.specs.Header.{header_good, ttl, with_ttl}
 use Rattle.click_packet.specs.Packet.{Packet}
+use Rattle.click_gateway.specs.Addresses.{is_host, ethernet_of_group}
+use Rattle.click_gateway.specs.Arp.{Sender, sender, request_for, ether_header}
+use Rattle.click_classes.specs.Gateway.{arp_reply, ping_reply, error_report}
 use Rattle.click_classes.specs.Matches.{matches}
+use Rattle.click_classes.specs.Neighbours.{Neighbour, most_neighbours, place_of}
+use Rattle.click_classes.specs.declared.neighbours.Querier.{Querier}
 use Rattle.click_classes.specs.PacketList.{PacketList}
 use Rattle.click_classes.specs.Routes.{route}
 use Rattle.click_classes.specs.declared.packet_effects.Verdict.{Verdict}
@@ -60,6 +65,11 @@ encapsulated s header p =
     if nat_le (length header + length p.bytes) 1600 then passed s (record p { bytes = header ++ p.bytes }) verdict.Forward
     else passed s p verdict.Dropped
 
+-- a packet that was made is forwarded; if none was made, the given verdict is that on the old one
+abbrev pub made_or : State → Option Packet → Packet → Verdict → PassEffect
+made_or s None p f = passed s p f
+made_or s (Some made) p f = passed s made verdict.Forward
+
 unfoldable pub pass : State → Packet → PassEffect
 pass (state.Counter count byte_count) p = passed (state.Counter (up_by count 1) (up_by byte_count (length p.bytes))) p verdict.Forward
 pass state.Null p = passed state.Null p verdict.Forward
@@ -73,6 +83,9 @@ pass (state.GetIPAddress offset) p = passed (state.GetIPAddress offset) (record 
 pass (state.CheckIPHeader refused) p = passed (state.CheckIPHeader refused) p (if header_good p.bytes refused then verdict.Forward else verdict.SideOutput)
 pass state.DecIPTTL p = aged p (ttl p.bytes)
 pass (state.EtherEncap header) p = encapsulated (state.EtherEncap header) header p
+pass (state.ARPResponder stations) p = made_or (state.ARPResponder stations) (arp_reply stations p) p verdict.SideOutput
+pass (state.ICMPError r) p = made_or (state.ICMPError r) (error_report r p) p verdict.Dropped
+pass state.ICMPPingResponder p = made_or state.ICMPPingResponder (ping_reply p) p verdict.SideOutput
 -- no other class passes packets in this way; a packet that is pushed to an Idle or a Discard is
 -- dropped
 pass s p = passed s p verdict.Dropped
@@ -154,6 +167,88 @@ is_active active port = slice_index_or active port false
 abbrev pub classified : List Pattern → List ℕ → Option ℕ
 classified patterns bytes = position (λ q. matches q bytes) (take 256 patterns)
 
+-- ---- an ARPQuerier: IP packets arrive at input 0, and ARP packets at input 1
+
+-- the querier with one more packet, and with one more drop
+abbrev pub counting : Querier → Querier
+counting q = record q { packets = up_by q.packets 1 }
+
+abbrev pub dropping : Querier → Querier
+dropping q = record q { drops = up_by q.drops 1 }
+
+-- a packet with the Ethernet header before it; a packet that is too long for that is dropped and
+-- counted
+abbrev pub sent_to : Querier → Packet → List ℕ → PushEffect
+sent_to q p to =
+    if nat_le (14 + length p.bytes) 1600 then sent (state.ARPQuerier q) (record p { bytes = ether_header to q.ether ++ p.bytes }) 0 1
+    else to_none (state.ARPQuerier (dropping q)) p
+
+-- the ARP query for a packet's destination replaces the packet: to output 1 if there is one,
+-- otherwise to output 0
+abbrev pub asked : ℕ → Querier → Packet → PushEffect
+asked outputs q p = sent (state.ARPQuerier q) (record p { bytes = request_for q.ip q.ether p.destination }) (if nat_lt 1 outputs then 1 else 0) 1
+
+-- A packet waits for the neighbour with that index. It replaces one that waited, which counts as
+-- dropped.
+abbrev pub waiting_for : Querier → ℕ → Neighbour → Packet → Querier
+waiting_for q place n p = record q {
+  table = slice_set q.table place (record n { waiting = Some p; used = q.packets });
+  drops = if is_some n.waiting then up_by q.drops 1 else q.drops;
+}
+
+-- the querier in which the neighbour with that index was used
+abbrev pub using : Querier → ℕ → Neighbour → Querier
+using q place n = record q { table = slice_set q.table place (record n { used = q.packets }) }
+
+-- a packet for a neighbour whose Ethernet address may be known
+abbrev pub resolved_by : ℕ → Querier → Packet → ℕ → Neighbour → Option (List ℕ) → PushEffect
+resolved_by outputs q p place n (Some to) = sent_to (using q place n) p to
+resolved_by outputs q p place n None = asked outputs (waiting_for q place n p) p
+
+abbrev pub resolved_at : ℕ → Querier → Packet → ℕ → Option Neighbour → PushEffect
+resolved_at outputs q p place None = to_none (state.ARPQuerier q) p
+resolved_at outputs q p place (Some n) = resolved_by outputs q p place n n.ether
+
+-- the table with a new last neighbour, for which a packet waits
+abbrev pub with_new : Querier → Packet → Querier
+with_new q p = record q { table = q.table ++ record { address = p.destination; ether = None; waiting = Some p; used = q.packets } ∷ [] }
+
+-- A packet for one address, by the index of that in the table. A packet for a new address that is
+-- not a host's, or for which the table has no room, is dropped and counted.
+abbrev pub resolved : ℕ → Querier → Packet → Option ℕ → PushEffect
+resolved outputs q p None =
+    if is_host p.destination && nat_lt (length q.table) most_neighbours then asked outputs (with_new q p) p
+    else to_none (state.ARPQuerier (dropping q)) p
+resolved outputs q p (Some place) = resolved_at outputs q p place (slice_get q.table place)
+
+-- a packet at input 0: that for a group goes to the group's Ethernet address, all others by the table
+abbrev pub forwarded : ℕ → Querier → Packet → Option (List ℕ) → PushEffect
+forwarded outputs q p (Some group) = sent_to q p group
+forwarded outputs q p None = resolved outputs q p (place_of q.table p.destination)
+
+-- the packet that waited leaves, if there is one
+abbrev pub let_go : Querier → Packet → List ℕ → Option Packet → PushEffect
+let_go q p to None = to_none (state.ARPQuerier q) p
+let_go q p to (Some waited) = sent_to q waited to
+
+-- the Ethernet address of a neighbour is known, and no packet waits for it
+abbrev pub knowing : Querier → ℕ → Neighbour → List ℕ → Querier
+knowing q place n ether = record q { table = slice_set q.table place (record n { ether = Some ether; waiting = None; used = q.packets }) }
+
+abbrev pub learnt_at : Querier → Packet → Sender → ℕ → Option Neighbour → PushEffect
+learnt_at q p who place None = to_none (state.ARPQuerier q) p
+learnt_at q p who place (Some n) = let_go (knowing q place n who.ether) p who.ether n.waiting
+
+abbrev pub learnt_of : Querier → Packet → Sender → Option ℕ → PushEffect
+learnt_of q p who None = to_none (state.ARPQuerier q) p
+learnt_of q p who (Some place) = learnt_at q p who place (slice_get q.table place)
+
+-- A packet at input 1. If the sender of an ARP packet is in the table, its Ethernet address is known
+-- from then on (RFC 826, "Packet Reception"). All other packets have no effect.
+abbrev pub learnt : Querier → Packet → Option Sender → PushEffect
+learnt q p None = to_none (state.ARPQuerier q) p
+learnt q p (Some who) = learnt_of q p who (place_of q.table who.ip)
+
 unfoldable pub act : ℕ → State → ℕ → Packet → PushEffect
 act outputs (state.Queue q drops highest) input p = queued q drops highest p
 act outputs (state.FrontDropQueue q drops highest) input p = front_queued q drops highest p
@@ -163,6 +258,8 @@ act outputs (state.Tee n) input p = sent (state.Tee n) p 0 outputs
 act outputs (state.Suppressor active) input p = if is_active active input then sent (state.Suppressor active) p input 1 else to_none (state.Suppressor active) p
 act outputs (state.Classifier patterns) input p = switched (state.Classifier patterns) (classified patterns p.bytes) p
 act outputs (state.StaticIPLookup entries) input p = routed (state.StaticIPLookup entries) (route entries p.destination) p
+act outputs (state.ARPQuerier q) input p =
+    if input == 0 then forwarded outputs (counting q) p (ethernet_of_group p.destination) else learnt q p (sender p.bytes)
 -- all other classes pass the packet or drop it
 act outputs s input p = pushed outputs (pass s p)
 
@@ -188,6 +285,9 @@ tries inputs (state.GetIPAddress offset) output = range 0 1
 tries inputs (state.CheckIPHeader refused) output = range 0 1
 tries inputs state.DecIPTTL output = range 0 1
 tries inputs (state.EtherEncap header) output = range 0 1
+tries inputs (state.ARPResponder stations) output = range 0 1
+tries inputs (state.ICMPError r) output = range 0 1
+tries inputs state.ICMPPingResponder output = range 0 1
 -- a queue returns a packet that it has stored, and an Idle returns nothing; no other class has a
 -- pull output
 tries inputs s output = range 0 0

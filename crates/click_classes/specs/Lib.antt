@@ -3,8 +3,11 @@ pub mod ClauseText
 pub mod Entries
 pub mod FaultText
 pub mod Fitting
+pub mod Gateway
 pub mod Made
 pub mod Matches
+pub mod NeighbourWrites
+pub mod Neighbours
 pub mod PacketList
 pub mod Patterns
 pub mod Ports

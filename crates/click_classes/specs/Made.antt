@@ -1,6 +1,6 @@
 -- The result of `make`: the first state of an element, or the first fault of its arguments. Their
 -- number is tested first, and then the arguments in order (Click element reference).
-use Rattle.std.specs.Prelude.{ℕ, ◌-◌, ◌/◌, ◌%◌, ◌^◌, ◌==◌, List, [], ◌∷◌, ◌++◌, length, true, ◌&&◌, nat_le, slice_get, slice_index_or, replicate, Option, Some, None, Result, Ok, Err, if◌then◌else◌, ◌≡◌, map, MatchBool}
+use Rattle.std.specs.Prelude.{ℕ, Bool, ◌||◌, take, codes, ◌-◌, ◌/◌, ◌%◌, ◌^◌, ◌==◌, List, [], ◌∷◌, ◌++◌, length, true, ◌&&◌, nat_le, slice_get, slice_index_or, replicate, Option, Some, None, Result, Ok, Err, if◌then◌else◌, ◌≡◌, map, MatchBool}
 use Rattle.click_classes.specs.declared.fault.ArgFault.{ArgFault}
 use Rattle.click_classes.specs.declared.fault.ArgFault.TheVariants as fault
 use Rattle.click_classes.specs.declared.state.State.{State}
@@ -9,7 +9,11 @@ use Rattle.click_classes.specs.Steps.{◌>>=◌, each}
 use Rattle.click_classes.specs.Patterns.{pattern}
 use Rattle.click_classes.specs.Entries.{table}
 use Rattle.click_classes.specs.PacketList.{PacketList}
-use Rattle.click_classes.specs.Values.{number_in, number_or_minus_one, some, truth, address, ethernet, is_device}
+use Rattle.click_classes.specs.Values.{number_in, number_or_minus_one, some, truth, address, ethernet, prefix, is_device}
+use Rattle.click_classes.specs.declared.neighbours.Querier.{Querier}
+use Rattle.click_classes.specs.declared.values.report.Report.{Report}
+use Rattle.click_classes.specs.declared.values.station.Station.{Station}
+use Rattle.std.specs.Str.{bytes_eq}
 use Rattle.std.specs.List.{AllZip}
 use Rattle.click_text.specs.declared.syntax.Span.{Span}
 use Rattle.click_text.specs.Arguments.{AreArguments}
@@ -150,6 +154,48 @@ infinite_source first args =
     optional args 3 true truth >>= λ active.
     Ok (state.InfiniteSource bytes limit burst active 0)
 
+-- ---- the classes of the gateway package
+
+-- a station: the prefixes of its addresses, and its Ethernet address last
+unfoldable pub station : List (List ℕ) → Result Station ArgFault
+station words =
+    if nat_le 2 (length words) && nat_le (length words) 65
+    then (each prefix (take (length words - 1) words) >>= λ prefixes. ethernet (slice_index_or words (length words - 1) []) >>= λ ether. Ok (record { prefixes = prefixes; ether = ether }))
+    else Err fault.BadEntry
+
+-- the first state of ARPResponder from the words of its arguments
+unfoldable pub arp_responder : List (List (List ℕ)) → Result State ArgFault
+arp_responder args = each station args >>= λ stations. Ok (state.ARPResponder stations)
+
+-- a querier with an empty table
+abbrev pub querier : List ℕ → List ℕ → Querier
+querier ip ether = record { ip = ip; ether = ether; table = []; packets = 0; drops = 0 }
+
+unfoldable pub arp_querier : List (List ℕ) → Result State ArgFault
+arp_querier args = taking 2 2 args
+    (address (argument_at args 0) >>= λ ip. ethernet (argument_at args 1) >>= λ ether. Ok (state.ARPQuerier (querier ip ether)))
+
+-- the types of ICMP errors: unreachable, redirect, time exceeded and parameter problem
+abbrev pub is_error_kind : ℕ → Bool
+is_error_kind n = (n == 3) || (n == 5) || (n == 11) || (n == 12)
+
+-- the type of an ICMP error from its name or its number
+unfoldable pub error_kind : List ℕ → Result ℕ ArgFault
+error_kind bytes =
+    if bytes_eq bytes (codes "unreachable") then Ok 3
+    else if bytes_eq bytes (codes "redirect") then Ok 5
+    else if bytes_eq bytes (codes "timeexceeded") then Ok 11
+    else if bytes_eq bytes (codes "parameterproblem") then Ok 12
+    else number_in 0 255 bytes >>= λ n. if is_error_kind n then Ok n else Err fault.OutOfRange
+
+unfoldable pub icmp_error : List (List ℕ) → Result State ArgFault
+icmp_error args = taking 2 4 args
+    (address (argument_at args 0) >>= λ own.
+    error_kind (argument_at args 1) >>= λ kind.
+    optional args 2 0 (number_in 0 255) >>= λ code.
+    optional args 3 0 (number_in 0 65535) >>= λ mtu.
+    Ok (state.ICMPError (record { own = own; kind = kind; code = code; mtu = mtu })))
+
 -- the result is determined by the words of the arguments, whose number is tested first
 abbrev pub ByWords : ℕ → ℕ → (List (List (List ℕ)) → Result State ArgFault) → List (List ℕ) → Result State ArgFault → Type 0
 ByWords least most first args r = MatchBool (nat_le least (length args) && nat_le (length args) most)
@@ -199,6 +245,10 @@ IsFresh class.EtherEncap args r = r ≡ ether_encap args
 IsFresh class.InfiniteSource args r = ByFirst 4 infinite_source args r
 IsFresh class.FromDevice args r = r ≡ from_device args
 IsFresh class.ToDevice args r = r ≡ to_device args
+IsFresh class.ARPResponder args r = ByWords 1 256 arp_responder args r
+IsFresh class.ARPQuerier args r = r ≡ arp_querier args
+IsFresh class.ICMPError args r = r ≡ icmp_error args
+IsFresh class.ICMPPingResponder args r = r ≡ without_arguments state.ICMPPingResponder args
 
 -- the first state, or the first fault, of an element of this class with this configuration string
 pub record IsMade (class : Class) (text : List ℕ) (r : Result State ArgFault) : Type 0 where

@@ -2,11 +2,11 @@
 use Rattle.std.specs.Prelude.{ℕ, ◌+◌, ◌*◌, ◌%◌, ◌==◌, List, [], ◌∷◌, length, take, drop, replicate, Bool, true, false, ◌||◌, ◌&&◌, nat_le, slice_index, slice_index_or, codes, position, Option, Some, None, Result, Ok, Err, if◌then◌else◌}
 use Rattle.std.specs.List.{list_all}
 use Rattle.std.specs.Str.{bytes_eq}
+use Rattle.click_base.specs.Numbers.{hex_digit, digit_value, decimal_in}
 use Rattle.click_classes.specs.declared.fault.ArgFault.{ArgFault}
 use Rattle.click_classes.specs.declared.fault.ArgFault.TheVariants as fault
 use Rattle.click_classes.specs.declared.values.pattern.Clause.{Clause}
 use Rattle.click_classes.specs.declared.values.pattern.Pattern.{Pattern}
-use Rattle.click_classes.specs.Values.{hex_digit, digit_value, decimal_in}
 use Rattle.click_classes.specs.Steps.{◌>>=◌, each}
 
 -- a hexadecimal digit or `?`

@@ -49,6 +49,10 @@ codes_of class.EtherEncap = row Agnostic Agnostic Agnostic
 codes_of class.InfiniteSource = row Agnostic Push Push
 codes_of class.FromDevice = row Agnostic Push Push
 codes_of class.ToDevice = row Pull Agnostic Agnostic
+codes_of class.ARPResponder = row Agnostic Agnostic Push
+codes_of class.ARPQuerier = row Push Push Push
+codes_of class.ICMPError = row Agnostic Agnostic Agnostic
+codes_of class.ICMPPingResponder = row Agnostic Agnostic Push
 
 -- the code of a port
 abbrev pub code : Class → Side → ℕ → Code
@@ -112,3 +116,7 @@ counts (state.EtherEncap header) = ports 1 1 1 1
 counts (state.InfiniteSource b l u a n) = ports 0 0 1 1
 counts (state.FromDevice d) = ports 0 0 1 1
 counts (state.ToDevice d) = ports 1 1 0 0
+counts (state.ARPResponder stations) = ports 1 1 1 2
+counts (state.ARPQuerier q) = ports 2 2 1 2
+counts (state.ICMPError r) = ports 1 1 1 1
+counts state.ICMPPingResponder = ports 1 1 1 2

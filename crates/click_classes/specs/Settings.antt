@@ -16,4 +16,5 @@ settings (state.Counter count byte_count) = state.Counter 0 0
 settings (state.RoundRobinSwitch next) = state.RoundRobinSwitch 0
 settings (state.RoundRobinSched next) = state.RoundRobinSched 0
 settings (state.InfiniteSource bytes limit burst active count) = state.InfiniteSource bytes limit burst active 0
+settings (state.ARPQuerier q) = state.ARPQuerier (record q { table = []; packets = 0; drops = 0 })
 settings s = s

@@ -35,3 +35,7 @@ class (state.EtherEncap header) = is.EtherEncap
 class (state.InfiniteSource b l u a n) = is.InfiniteSource
 class (state.FromDevice d) = is.FromDevice
 class (state.ToDevice d) = is.ToDevice
+class (state.ARPResponder stations) = is.ARPResponder
+class (state.ARPQuerier q) = is.ARPQuerier
+class (state.ICMPError r) = is.ICMPError
+class state.ICMPPingResponder = is.ICMPPingResponder

@@ -21,11 +21,12 @@ kept_position outputs own (Some k) = if nat_lt k outputs then Some k else own
 
 -- What an element with that number of outputs takes over from an old one of its class. A queue
 -- takes the packets. Those without room count as drops, and the number that it took is its
--- high-water mark. A Counter takes both counts, and a Switch the position. All other elements keep
--- their first state.
+-- high-water mark. A Counter takes both counts, and a Switch the position. An ARPQuerier takes the
+-- table with the packets that wait, and both counts. All other elements keep their first state.
 abbrev pub taken_over : ℕ → State → State → State
 taken_over outputs (state.Queue q d h) (state.Queue old e i) = state.Queue (filled q old) (left_over q old) (length (filled q old).packets)
 taken_over outputs (state.FrontDropQueue q d h) (state.FrontDropQueue old e i) = state.FrontDropQueue (filled q old) (left_over q old) (length (filled q old).packets)
 taken_over outputs (state.Counter n b) (state.Counter old_count old_bytes) = state.Counter old_count old_bytes
 taken_over outputs (state.Switch own) (state.Switch k) = state.Switch (kept_position outputs own k)
+taken_over outputs (state.ARPQuerier q) (state.ARPQuerier old) = state.ARPQuerier (record q { table = old.table; packets = old.packets; drops = old.drops })
 taken_over outputs s old = s

@@ -1,43 +1,17 @@
 -- The values that arguments spell (Click element reference), as functions of an argument's bytes.
-use Rattle.std.specs.Prelude.{ℕ, zero, suc, ◌+◌, ◌-◌, ◌*◌, ◌/◌, ◌^◌, ◌==◌, List, [], ◌∷◌, length, take, drop, Bool, true, false, ◌||◌, ◌&&◌, nat_lt, nat_le, slice_index, codes, position, unwrap_or, Option, Some, None, option_map, option_and_then, Result, Ok, Err, if◌then◌else◌}
+use Rattle.std.specs.Prelude.{ℕ, zero, suc, ◌+◌, ◌-◌, ◌*◌, ◌/◌, ◌^◌, ◌==◌, List, [], ◌∷◌, length, take, drop, Bool, true, false, ◌||◌, ◌&&◌, nat_le, slice_index, codes, position, Option, Some, None, option_map, option_and_then, Result, Ok, Err, if◌then◌else◌}
 use Rattle.std.specs.Option.{ok_or}
 use Rattle.std.specs.List.{list_all}
 use Rattle.std.specs.Str.{bytes_eq}
-use Rattle.click_text.specs.Pieces.{digit, name_byte}
-use Rattle.click_text.specs.Unquote.{hex_digit_value}
+use Rattle.click_base.specs.declared.numbers.NumberFault.{NumberFault}
+use Rattle.click_base.specs.declared.numbers.NumberFault.TheVariants as number_fault
+use Rattle.click_base.specs.Numbers.{digit, hex_digit, is_run, spelled, decimal_in, hexadecimal_in, within}
+use Rattle.click_text.specs.Pieces.{name_byte}
 use Rattle.click_classes.specs.declared.fault.ArgFault.{ArgFault}
 use Rattle.click_classes.specs.declared.fault.ArgFault.TheVariants as fault
 use Rattle.click_classes.specs.declared.values.groups.Group.{Group}
 use Rattle.click_classes.specs.declared.values.groups.Group.TheVariants as kind
 use Rattle.click_classes.specs.declared.values.prefix.Prefix.{Prefix}
-
--- a decimal digit, or a letter from A to F in either case
-abbrev pub hex_digit : ℕ → Bool
-hex_digit b = digit b || (nat_le 65 b && nat_le b 70) || (nat_le 97 b && nat_le b 102)
-
--- the value of a digit
-abbrev pub digit_value : ℕ → ℕ
-digit_value b = unwrap_or (hex_digit_value b) 0
-
--- one or more bytes that all pass a test
-abbrev pub is_run : (ℕ → Bool) → List ℕ → Bool
-is_run test bytes = nat_lt 0 (length bytes) && list_all test bytes
-
--- the number that digits spell in a base, if n was read before them
-abbrev pub spelled : ℕ → ℕ → List ℕ → ℕ
-spelled base n [] = n
-spelled base n (d ∷ ds) = spelled base (base * n + digit_value d) ds
-
-abbrev pub at_most : ℕ → ℕ → Option ℕ
-at_most high n = if nat_le n high then Some n else None
-
--- the number that decimal digits spell, if it is at most `high`
-unfoldable pub decimal_in : ℕ → List ℕ → Option ℕ
-decimal_in high bytes = if is_run digit bytes then at_most high (spelled 10 0 bytes) else None
-
--- the number that hexadecimal digits spell, if it is at most `high`
-unfoldable pub hexadecimal_in : ℕ → List ℕ → Option ℕ
-hexadecimal_in high bytes = if is_run hex_digit bytes then at_most high (spelled 16 0 bytes) else None
 
 -- `0x` and hexadecimal digits
 abbrev pub is_hexadecimal : List ℕ → Bool
@@ -50,21 +24,15 @@ number bytes =
     else if is_hexadecimal bytes then Some (spelled 16 0 (drop 2 bytes))
     else None
 
-abbrev pub within : ℕ → ℕ → Option ℕ → Result ℕ ArgFault
-within low high None = Err fault.BadNumber
-within low high (Some n) = if nat_le low n && nat_le n high then Ok n else Err fault.OutOfRange
+-- the result of a number as that of an argument
+abbrev pub as_argument : Result ℕ NumberFault → Result ℕ ArgFault
+as_argument (Ok n) = Ok n
+as_argument (Err number_fault.BadNumber) = Err fault.BadNumber
+as_argument (Err number_fault.OutOfRange) = Err fault.OutOfRange
 
 -- a number from low to high
 unfoldable pub number_in : ℕ → ℕ → List ℕ → Result ℕ ArgFault
-number_in low high bytes = within low high (number bytes)
-
--- the number that decimal digits spell
-abbrev pub digits : List ℕ → Option ℕ
-digits bytes = if is_run digit bytes then Some (spelled 10 0 bytes) else None
-
--- a number from low to high, in decimal digits only
-unfoldable pub decimal_number : ℕ → ℕ → List ℕ → Result ℕ ArgFault
-decimal_number low high bytes = within low high (digits bytes)
+number_in low high bytes = as_argument (within low high (number bytes))
 
 abbrev pub some : Result ℕ ArgFault → Result (Option ℕ) ArgFault
 some (Ok n) = Ok (Some n)

@@ -1,4 +1,5 @@
 pub mod Answers
+pub mod KeepTests
 pub mod Ring
 pub mod Rows
 pub mod Masks

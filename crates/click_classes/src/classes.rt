@@ -11,11 +11,13 @@ pub mod address;
 pub mod classifier;
 pub mod devices;
 pub mod encap;
+pub mod gateway;
 pub mod header;
 pub mod length;
 pub mod lookup;
 pub mod paint;
 pub mod plain;
+pub mod querier;
 pub mod queues;
 pub mod schedulers;
 pub mod source;
@@ -26,6 +28,7 @@ use self::address::make_get_ip_address;
 use self::classifier::make_classifier;
 use self::devices::{make_from_device, make_to_device};
 use self::encap::make_ether_encap;
+use self::gateway::{make_arp_responder, make_icmp_error, make_icmp_ping_responder};
 use self::header::{make_check_ip_header, make_dec_ip_ttl};
 use self::length::{make_check_length, make_strip};
 use self::lookup::make_static_ip_lookup;
@@ -33,6 +36,7 @@ use self::paint::{make_paint, make_paint_tee};
 use self::plain::{
     make_counter, make_discard, make_idle, make_null, make_pull_null, make_push_null, make_unqueue,
 };
+use self::querier::make_arp_querier;
 use self::queues::{make_front_drop_queue, make_queue};
 use self::schedulers::{make_prio_sched, make_round_robin_sched};
 use self::source::make_infinite_source;
@@ -80,6 +84,10 @@ pub fn first_state(alloc: Global, class: Class, arguments: &Arguments) -> Result
         Class::InfiniteSource => make_infinite_source(alloc, arguments),
         Class::FromDevice => make_from_device(alloc, arguments),
         Class::ToDevice => make_to_device(alloc, arguments),
+        Class::ARPResponder => make_arp_responder(alloc, arguments),
+        Class::ARPQuerier => make_arp_querier(alloc, arguments),
+        Class::ICMPError => make_icmp_error(arguments),
+        Class::ICMPPingResponder => make_icmp_ping_responder(arguments),
     }
 }
 

@@ -3,6 +3,7 @@
 ghost use Rattle.std.specs.Prelude.{◌≡◌, length, true};
 ghost use Rattle.click_classes.specs.TakeOver.{filled, left_over, kept_position, taken_over};
 
+use crate::neighbours::Querier;
 use crate::packet_list::PacketList;
 use crate::state::State;
 
@@ -41,6 +42,18 @@ fn position_after(outputs: u16, own: Option<u8>, old: Option<u8>) -> Option<u8>
         Some(output) if u16::from(output) >= outputs => own,
         _ => old,
     }
+}
+
+/// Takes over the table and the counts of an old ARPQuerier.
+///
+/// If `keeps` is true, the old one is left unchanged.
+fn take_neighbours(querier: &mut Querier, old: &mut Querier, keeps: bool)
+    ensures taken { querier.new ≡ record querier.old { table = old.old.table; packets = old.old.packets; drops = old.old.drops } }
+    ensures kept { keeps ≡ true → old.new ≡ old.old }
+{
+    querier.table.take_from(&mut old.table, keeps);
+    querier.packets = old.packets;
+    querier.drops = old.drops;
 }
 
 impl State {
@@ -85,6 +98,9 @@ impl State {
             }
             (State::Switch { output }, State::Switch { output: stood }) => {
                 *output = position_after(outputs, *output, *stood);
+            }
+            (State::ARPQuerier { querier }, State::ARPQuerier { querier: old }) => {
+                take_neighbours(querier, old, keeps);
             }
             _ => {}
         }

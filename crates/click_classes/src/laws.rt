@@ -184,7 +184,7 @@ pub fn taken_switches_keep_their_position()
 pub fn all_others_begin_anew()
     ensures other_class { (outputs : ℕ) (s old : State) → (class s ≡ class old → ⊥) → taken_over outputs s old ≡ s }
     ensures not_taken { (outputs : ℕ) (s old : State) → (class s ≡ Class.Queue → ⊥) → (class s ≡ Class.FrontDropQueue → ⊥) → (class s ≡ Class.Counter → ⊥)
-        → (class s ≡ Class.Switch → ⊥) → taken_over outputs s old ≡ s }
+        → (class s ≡ Class.Switch → ⊥) → (class s ≡ Class.ARPQuerier → ⊥) → taken_over outputs s old ≡ s }
 {}
 
 /// Taking over keeps the class of an element and its fit to its ports.

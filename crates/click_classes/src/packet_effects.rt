@@ -8,10 +8,12 @@ ghost use Rattle.click_classes.specs.Acts.{after, range, side_output, pushed_to,
 use crate::classes::address::take_address;
 use crate::classes::classifier::classify;
 use crate::classes::encap::encapsulate;
+use crate::classes::gateway::{answer_arp, answer_ping, report_error};
 use crate::classes::header::{age, header_verdict};
 use crate::classes::length::length_verdict;
 use crate::classes::paint::paint_tee_verdict;
 use crate::classes::plain::count_packet;
+use crate::classes::querier::{forward, learn};
 use crate::classes::queues::{store, store_dropping_first};
 use crate::classes::source::has_next;
 use crate::packet_list::PacketList;
@@ -156,6 +158,9 @@ impl State {
                     Verdict::Dropped
                 }
             }
+            State::ARPResponder { stations } => answer_arp(stations.as_slice(), packet),
+            State::ICMPError { report } => report_error(report, packet),
+            State::ICMPPingResponder => answer_ping(packet),
             State::Queue { .. }
             | State::FrontDropQueue { .. }
             | State::Unqueue
@@ -173,7 +178,8 @@ impl State {
             | State::StaticIPLookup { .. }
             | State::InfiniteSource { .. }
             | State::FromDevice { .. }
-            | State::ToDevice { .. } => Verdict::Dropped,
+            | State::ToDevice { .. }
+            | State::ARPQuerier { .. } => Verdict::Dropped,
         }
     }
 
@@ -277,6 +283,18 @@ impl State {
                 }
                 None => NONE,
             },
+            State::ARPResponder { stations } => {
+                pushed_to(outputs, answer_arp(stations.as_slice(), packet))
+            }
+            State::ICMPError { report } => pushed_to(outputs, report_error(report, packet)),
+            State::ICMPPingResponder => pushed_to(outputs, answer_ping(packet)),
+            State::ARPQuerier { querier } => {
+                if input == 0 {
+                    forward(querier, *outputs, packet)
+                } else {
+                    learn(querier, packet)
+                }
+            }
             State::Unqueue
             | State::PullSwitch { .. }
             | State::RoundRobinSched { .. }
@@ -326,7 +344,10 @@ impl State {
             | State::GetIPAddress { .. }
             | State::CheckIPHeader { .. }
             | State::DecIPTTL
-            | State::EtherEncap { .. } => PortRange { first: 0, count: 1 },
+            | State::EtherEncap { .. }
+            | State::ARPResponder { .. }
+            | State::ICMPError { .. }
+            | State::ICMPPingResponder => PortRange { first: 0, count: 1 },
             State::Queue { .. }
             | State::FrontDropQueue { .. }
             | State::Unqueue
@@ -340,7 +361,8 @@ impl State {
             | State::StaticIPLookup { .. }
             | State::InfiniteSource { .. }
             | State::FromDevice { .. }
-            | State::ToDevice { .. } => NONE,
+            | State::ToDevice { .. }
+            | State::ARPQuerier { .. } => NONE,
         }
     }
 
@@ -502,7 +524,11 @@ impl State {
             | State::EtherEncap { .. }
             | State::InfiniteSource { .. }
             | State::FromDevice { .. }
-            | State::ToDevice { .. } => {
+            | State::ToDevice { .. }
+            | State::ARPResponder { .. }
+            | State::ARPQuerier { .. }
+            | State::ICMPError { .. }
+            | State::ICMPPingResponder => {
                 let verdict = self.pass(packet);
                 pulled(outputs, verdict)
             }

@@ -31,7 +31,8 @@ fn codes_of(class: Class) -> Codes
         | Class::Tee
         | Class::PushNull
         | Class::Classifier
-        | Class::StaticIPLookup => same(Code::Push, Code::Push),
+        | Class::StaticIPLookup
+        | Class::ARPQuerier => same(Code::Push, Code::Push),
         Class::PullSwitch | Class::RoundRobinSched | Class::PrioSched | Class::PullNull => same(
             Code::Pull,
             Code::Pull,
@@ -41,7 +42,12 @@ fn codes_of(class: Class) -> Codes
             output: Code::Pull,
             further: Code::Push,
         },
-        Class::PaintTee | Class::CheckLength | Class::CheckIPHeader | Class::DecIPTTL => Codes {
+        Class::PaintTee
+        | Class::CheckLength
+        | Class::CheckIPHeader
+        | Class::DecIPTTL
+        | Class::ARPResponder
+        | Class::ICMPPingResponder => Codes {
             inputs: Code::Agnostic,
             output: Code::Agnostic,
             further: Code::Push,
@@ -56,7 +62,8 @@ fn codes_of(class: Class) -> Codes
         | Class::Paint
         | Class::Strip
         | Class::GetIPAddress
-        | Class::EtherEncap => same(Code::Agnostic, Code::Agnostic),
+        | Class::EtherEncap
+        | Class::ICMPError => same(Code::Agnostic, Code::Agnostic),
     }
 }
 
@@ -133,7 +140,10 @@ pub fn counts(state: &State) -> Counts
         State::PaintTee { .. }
         | State::CheckLength { .. }
         | State::CheckIPHeader { .. }
-        | State::DecIPTTL => ((1, 1), (1, 2)),
+        | State::DecIPTTL
+        | State::ARPResponder { .. }
+        | State::ICMPPingResponder => ((1, 1), (1, 2)),
+        State::ARPQuerier { .. } => ((2, 2), (1, 2)),
         State::Classifier { patterns } => {
             let outputs = patterns.len().min(65_535) as u16;
             ((1, 1), (outputs, outputs))

@@ -3,9 +3,12 @@
 ghost use Rattle.std.specs.Prelude.{◌≡◌};
 ghost use Rattle.click_classes.specs.State.{class};
 
+use crate::neighbours::Querier;
 use crate::packet_list::PacketList;
 use crate::patterns::Patterns;
 use crate::routes::Routes;
+use crate::values::report::Report;
+use crate::values::station::Station;
 use click_base::Class;
 use click_base::sequence::Sequence;
 
@@ -117,6 +120,18 @@ pub enum State {
     ToDevice {
         device: Sequence<u8>,
     },
+    /// `stations` are those for which it replies.
+    ARPResponder {
+        stations: Sequence<Station>,
+    },
+    /// `querier` has the addresses of the station, the table and the drops.
+    ARPQuerier {
+        querier: Querier,
+    },
+    ICMPError {
+        report: Report,
+    },
+    ICMPPingResponder,
 }
 
 impl State {
@@ -155,6 +170,10 @@ impl State {
             State::InfiniteSource { .. } => Class::InfiniteSource,
             State::FromDevice { .. } => Class::FromDevice,
             State::ToDevice { .. } => Class::ToDevice,
+            State::ARPResponder { .. } => Class::ARPResponder,
+            State::ARPQuerier { .. } => Class::ARPQuerier,
+            State::ICMPError { .. } => Class::ICMPError,
+            State::ICMPPingResponder => Class::ICMPPingResponder,
         }
     }
 }

@@ -6,18 +6,11 @@ ghost use Rattle.click_classes.specs.declared.values.pattern.Clause.{Clause};
 ghost use Rattle.click_classes.specs.ClauseText.{Halves, AreHalves, AreBytes, halves_text, hex_text, wanted, counted, counted_under, sign, BeginsWith};
 ghost use Rattle.click_classes.specs.Matches.{holds};
 ghost use Rattle.click_classes.specs.Patterns.{clause};
-ghost use Rattle.click_classes.specs.Values.{address, cleared, decimal_number, ethernet, number_in, prefix};
-
-/// The decimal digits of a number read as that number if it is in range.
-///
-/// Otherwise they are out of range.
-pub fn digits_of_a_number_read_as_it()
-    ensures inside { (low high n : ℕ) → n < 2 ^ 64 → low ≤ n → n ≤ high → decimal_number low high (decimal n) ≡ Ok n }
-    ensures below { (low high n : ℕ) → n < 2 ^ 64 → n < low → decimal_number low high (decimal n) ≡ Err fault.OutOfRange }
-    ensures above { (low high n : ℕ) → n < 2 ^ 64 → high < n → decimal_number low high (decimal n) ≡ Err fault.OutOfRange }
-{}
+ghost use Rattle.click_classes.specs.Values.{address, cleared, ethernet, number_in, prefix};
 
 /// The decimal digits of a number read as that number also where `0x` is allowed.
+///
+/// This holds if the number is in range. Otherwise they are out of range.
 pub fn digits_of_a_number_read_as_it_in_either_base()
     ensures inside { (low high n : ℕ) → n < 2 ^ 64 → low ≤ n → n ≤ high → number_in low high (decimal n) ≡ Ok n }
     ensures below { (low high n : ℕ) → n < 2 ^ 64 → n < low → number_in low high (decimal n) ≡ Err fault.OutOfRange }

@@ -8,4 +8,6 @@ pub mod groups;
 pub mod number;
 pub mod pattern;
 pub mod prefix;
+pub mod report;
+pub mod station;
 pub mod truth;

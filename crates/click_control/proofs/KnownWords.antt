@@ -6,11 +6,10 @@ use Rattle.std.specs.List.{list_all, prefix_len}
 use Rattle.std.proofs.Math.Seq.{take-append_seam}
 use Rattle.std.proofs.lemmas.Bool.Decides.{nat_tests}
 use Rattle.std.proofs.lemmas.Fmt.{decimal_nonempty}
-use Rattle.click_text.specs.Pieces.{digit}
-use Rattle.click_classes.specs.Values.{digits}
-use Rattle.click_classes.proofs.OfNumbers.Decimals.{digits-decimal, is_run-decimal, spelled-decimal}
 use Rattle.click_base.specs.Blanks.{is_blank, without_front, trimmed}
+use Rattle.click_base.specs.Numbers.{digit, digits}
 use Rattle.click_base.proofs.BlanksAround.{first, last, around}
+use Rattle.click_base.proofs.Decimals.{digits-decimal, is_run-decimal, spelled-decimal}
 use Rattle.click_router.specs.declared.check.Access.{Access}
 use Rattle.click_router.specs.declared.check.Access.TheVariants as direction
 use Rattle.click_control.specs.declared.command.Command.TheVariants as command

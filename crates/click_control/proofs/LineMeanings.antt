@@ -4,9 +4,9 @@ use Rattle.std.proofs.lemmas.Bool.{cases_Bool, leb-true, le-leb}
 use Rattle.std.specs.Prelude.{if◌then◌else◌}
 use Rattle.std.specs.Str.{str_eq_ignore_ascii_case}
 use Rattle.click_base.specs.Blanks.{trimmed}
-use Rattle.click_classes.specs.Values.{digits, within, decimal_number}
-use Rattle.click_classes.specs.declared.fault.ArgFault.{ArgFault}
-use Rattle.click_classes.specs.declared.fault.ArgFault.TheVariants as fault
+use Rattle.click_base.specs.Numbers.{digits, within, decimal_number}
+use Rattle.click_base.specs.declared.numbers.NumberFault.{NumberFault}
+use Rattle.click_base.specs.declared.numbers.NumberFault.TheVariants as fault
 use Rattle.click_router.specs.declared.check.Access.{Access}
 use Rattle.click_router.specs.declared.check.Access.TheVariants as direction
 use Rattle.click_control.specs.declared.command.Command.TheVariants as command
@@ -69,7 +69,7 @@ payload_line-some w handler zero some small = absurd (omega arith)
 payload_line-some w handler (suc n) some small = rw (le-leb (suc n) longest_payload small) refl
 
 -- the meaning of a line with this payload length, or with this fault in it
-abbrev pub announced_by : Access → List ℕ → Result ℕ ArgFault → ParsedLine
+abbrev pub announced_by : Access → List ℕ → Result ℕ NumberFault → ParsedLine
 announced_by w handler (Ok n) = payload_line w handler (Some n)
 announced_by w handler (Err f) = whole (bad_count f)
 

@@ -2,7 +2,7 @@
 use Rattle.std.specs.Prelude.{◌≡◌, ◌⊎◌, ℕ, zero, suc, ◌-◌, List, [], ◌∷◌, ◌++◌, length, take_while, Bool, true, false, not, ◌||◌, nat_eq, nat_le, Option, Some, None, codes, if◌then◌else◌}
 use Rattle.std.specs.Str.{str_eq_ignore_ascii_case}
 use Rattle.click_base.specs.Blanks.{is_blank, without_front, trimmed}
-use Rattle.click_classes.specs.Values.{digits}
+use Rattle.click_base.specs.Numbers.{digits}
 use Rattle.click_router.specs.declared.check.Access.{Access}
 use Rattle.click_router.specs.declared.check.Access.TheVariants as direction
 use Rattle.click_control.specs.declared.command.Command.{Command}

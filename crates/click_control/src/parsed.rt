@@ -9,8 +9,7 @@ ghost use Rattle.click_control.specs.kept.Lines.{says, bad_count};
 
 use crate::command::Command;
 use click_base::sequence::Sequence;
-use click_base::{is_blank, trimmed, without_front};
-use click_classes::{ArgFault, decimal_number};
+use click_base::{NumberFault, decimal_number, is_blank, trimmed, without_front};
 use click_router::Access;
 use std::alloc::{AllocError, Global};
 
@@ -103,17 +102,12 @@ fn parse_data(alloc: Global, direction: Access, rest: &[u8]) -> Result<ParsedLin
 }
 
 /// Returns the command of a line whose payload length is too great or is not a number.
-fn bad_count(fault: ArgFault) -> Command
+fn bad_count(fault: NumberFault) -> Command
     ensures { result ≡ bad_count fault }
 {
     match fault {
-        ArgFault::OutOfRange => Command::DataTooLong,
-        ArgFault::NoMemory
-        | ArgFault::ArgumentCount
-        | ArgFault::BadNumber
-        | ArgFault::BadText
-        | ArgFault::BadAddress
-        | ArgFault::BadEntry => Command::Syntax,
+        NumberFault::BadNumber => Command::Syntax,
+        NumberFault::OutOfRange => Command::DataTooLong,
     }
 }
 

@@ -1,21 +1,25 @@
 //! A flat configuration as text.
 
 ghost use Rattle.std.specs.Prelude.{◌≡◌, ◌++◌, IfOk, OnOk};
-ghost use Rattle.click_expand.specs.FlatText.{flat_text_of, element_line, connection_line, string_of, out_port, in_port, name_at_place};
+ghost use Rattle.click_expand.specs.FlatText.{flat_text_of, uses_gateway, requirement, element_line, connection_line, string_of, out_port, in_port, name_at_place};
+ghost use Rattle.click_base.specs.Classes.{is_gateway};
 
 use crate::flat::{Connection, Flat, FlatElement};
+use click_base::Class;
 use itoa::Buffer;
 use std::alloc::{AllocError, Global};
 
 /// Returns the text of a flat configuration, or fails with out of memory.
 ///
 /// It has a line `name :: Class(text);` for each element, and then a line `a [p] -> [q] b;` for
-/// each connection.
+/// each connection. The line `require(gateway);` comes before them if an element is of a class of
+/// the gateway package, and is left out otherwise.
 pub fn flat_text(alloc: Global, flat: &Flat) -> Result<Vec<u8>, AllocError>
     ensures { IfOk result (λ text. text.items ≡ flat_text_of flat.now) }
 {
     let elements = flat.elements.as_slice();
     let mut text = Vec::new(alloc);
+    push_requirement(&mut text, elements)?;
     for element in elements {
         push_element(&mut text, element)?;
     }
@@ -23,6 +27,34 @@ pub fn flat_text(alloc: Global, flat: &Flat) -> Result<Vec<u8>, AllocError>
         push_connection(&mut text, elements, connection)?;
     }
     Ok(text)
+}
+
+/// Returns whether one of the elements is of a class of the gateway package.
+pub fn uses_gateway(elements: &[FlatElement]) -> bool
+    ensures { result ≡ uses_gateway elements.now }
+{
+    elements.iter().any(|element| is_gateway(element.class))
+}
+
+/// Returns whether a class is of the gateway package.
+fn is_gateway(class: Class) -> bool
+    ensures { result ≡ is_gateway class }
+{
+    match class {
+        Class::ARPResponder | Class::ARPQuerier | Class::ICMPError | Class::ICMPPingResponder =>
+            true,
+        _ => false,
+    }
+}
+
+/// Appends the line that requires the gateway package, if an element is of one of its classes.
+fn push_requirement(text: &mut Vec<u8>, elements: &[FlatElement]) -> Result<(), AllocError>
+    ensures { OnOk result (text.new.items ≡ text.old.items ++ requirement elements.now) }
+{
+    if uses_gateway(elements) {
+        text.extend_from_slice(b"require(gateway);\n")?;
+    }
+    Ok(())
 }
 
 /// Appends the line of an element.

@@ -13,5 +13,5 @@ mod texts;
 
 pub use fault::{ExpandFault, FaultKind};
 pub use flat::{Connection, Flat, FlatElement};
-pub use flat_writing::flat_text;
+pub use flat_writing::{flat_text, uses_gateway};
 pub use flattening::flatten;

@@ -1,6 +1,10 @@
 pub mod ActivePorts
 pub mod BoxedCalls
+pub mod CallsByName
 pub mod DottedAddresses
+pub mod EthernetTexts
+pub mod InsertedNeighbours
+pub mod QuerierTexts
 pub mod ReadsAfterWrites
 pub mod RowLists
 pub mod RowNames

@@ -5,12 +5,13 @@ use Rattle.std.proofs.lemmas.Bool.{lt-ltb}
 use Rattle.std.proofs.lemmas.List.{get_or-set_same}
 use Rattle.click_classes.specs.Queues.{queue_of}
 use Rattle.click_classes.specs.State.{class}
-use Rattle.click_classes.specs.Values.{decimal_number, truth}
+use Rattle.click_classes.specs.Values.{truth}
 use Rattle.click_base.specs.declared.class.Class.TheVariants as is
 use Rattle.click_classes.specs.declared.state.State.{State}
 use Rattle.click_classes.specs.declared.state.State.TheVariants as state
 use Rattle.click_engine.specs.declared.run_state.Element.{Element}
 use Rattle.click_base.specs.Blanks.{trimmed}
+use Rattle.click_base.specs.Numbers.{decimal_number}
 use Rattle.click_handlers.specs.Names.{active_port}
 use Rattle.click_handlers.specs.Reads.{read_value, read_state, port_text, truth_text}
 use Rattle.click_handlers.specs.Writes.{write_value, write_state, with_state, written_port}

@@ -1,26 +1,44 @@
 -- Lemmas about the rows of a table and the list of handlers that they must be.
-use Rattle.std.proofs.Common.{◌≡◌, ℕ, ◌<◌, ◌≤◌, ◌+◌, List, [], ◌∷◌, ◌++◌, map, length, take, drop, get_or, Bool, true, false, ◌||◌, ◌&&◌, Some, refl, sym, ◌∙◌, ap, arith}
+use Rattle.std.proofs.Common.{◌≡◌, ℕ, ◌<◌, ◌≤◌, ◌+◌, List, [], ◌∷◌, ◌++◌, map, length, take, drop, get_or, Bool, true, false, ◌||◌, ◌&&◌, Option, None, Some, refl, sym, ◌∙◌, ap, arith}
 use Rattle.std.proofs.lemmas.List.{drop_more, append_cancel_left, take_all}
 use Rattle.std.proofs.lemmas.List.Folds.{list_any-append, list_any_at}
 use Rattle.std.specs.List.{list_any}
 use Rattle.std.specs.Str.{bytes_eq}
-use Rattle.std.specs.Prelude.{IsTrue}
+use Rattle.std.specs.Prelude.{IsTrue, not}
 use Rattle.std.proofs.lemmas.Slice.Eq.{bytes_eq-Decides}
-use Rattle.click_base.specs.Classes.{name as class_name}
+use Rattle.click_base.specs.Classes.{name as class_name, class_of, is_gateway}
 use Rattle.click_base.specs.declared.class.Class.{Class}
 use Rattle.click_base.specs.declared.class.Class.TheVariants as class
-use Rattle.click_base.proofs.ClassNames.{named}
+use Rattle.click_base.proofs.ClassNames.{by_name, named, gateway-named}
 use Rattle.click_handlers.specs.Names.{HandlerName, of_class, is_named, handled, names_by, reads_of, writes_of, read_names, write_names, has_read, has_write}
 
 pub list_any_map : {A B : Type 0} (p : B → Bool) (f : A → B) (xs : List A) → list_any p (map f xs) ≡ list_any (λ x. p (f x)) xs
 list_any_map p f [] = refl
 list_any_map p f (x ∷ xs) = ap (λ b. p (f x) || b) (list_any_map p f xs)
 
+-- no class of the thirty has the name of one of the gateway package
+unlisted : (c : Class) → is_gateway c ≡ true → class_of (class_name c) ≡ None
+unfolding class_of
+unlisted class.ARPResponder k = refl
+unlisted class.ARPQuerier k = refl
+unlisted class.ICMPError k = refl
+unlisted class.ICMPPingResponder k = refl
+unlisted _ k = absurd (cc k)
+
 -- classes with the same name are the same class
 pub same_by_name : (a b : Class) → class_name a ≡ class_name b → a ≡ b
-same_by_name a b e = some_inj a b (sym (named a (class_name b) e) ∙ named b (class_name b) refl) where
+same_by_name a b e = go (is_gateway a) (is_gateway b) refl refl where
   some_inj : (a b : Class) → Some a ≡ Some b → a ≡ b
   some_inj a b e = cc
+
+  none_no : (c : Class) → ◌≡◌ {A = Option Class} None (Some c) → ⊥
+  none_no c e = cc
+
+  go : (x y : Bool) → is_gateway a ≡ x → is_gateway b ≡ y → a ≡ b
+  go false false f g = some_inj a b (sym (named a (class_name b) f e) ∙ named b (class_name b) g refl)
+  go true true f g = some_inj a b (sym (gateway-named a (class_name b) f e) ∙ gateway-named b (class_name b) g refl)
+  go true false f g = absurd (none_no b (sym (unlisted a f) ∙ (ap class_of e ∙ by_name b g)))
+  go false true f g = absurd (none_no a (sym (unlisted b g) ∙ (ap class_of (sym e) ∙ by_name a f)))
 
 both : (a b : Bool) → (a && b) ≡ true → (a ≡ true) × (b ≡ true)
 both true b e = (refl, e)
@@ -110,24 +128,32 @@ any_of names_of class handler (c ∷ cs) =
           rw (own (names_of c) true e, e, same) (or_itself (list_any (λ c. bytes_eq (class_name c) (class_name class)) cs) (list_any (λ n. bytes_eq n handler) (names_of class)))
       go false e = rw (own (names_of c) false e, e) refl
 
--- a class that is not in the list of classes with handlers has no names; computed for each class
-handled_reads : (class : Class) (handler : List ℕ) → (list_any (λ c. bytes_eq (class_name c) (class_name class)) handled && has_read class handler) ≡ has_read class handler
+-- a class is in the list of classes with rows, or it has no names or is of the gateway package;
+-- computed for each class
+handled_reads : (class : Class) (handler : List ℕ) → (list_any (λ c. bytes_eq (class_name c) (class_name class)) handled && has_read class handler) ≡ (not (is_gateway class) && has_read class handler)
 unfolding reads_of
 handled_reads class.Queue handler = refl
 handled_reads _ handler = refl
 
-handled_writes : (class : Class) (handler : List ℕ) → (list_any (λ c. bytes_eq (class_name c) (class_name class)) handled && has_write class handler) ≡ has_write class handler
+handled_writes : (class : Class) (handler : List ℕ) → (list_any (λ c. bytes_eq (class_name c) (class_name class)) handled && has_write class handler) ≡ (not (is_gateway class) && has_write class handler)
 unfolding writes_of
 handled_writes class.Queue handler = refl
 handled_writes _ handler = refl
 
-pub read_listed : (class : Class) (handler : List ℕ) → list_any (is_named class handler) read_names ≡ has_read class handler
+pub read_listed : (class : Class) (handler : List ℕ) → list_any (is_named class handler) read_names ≡ (not (is_gateway class) && has_read class handler)
 unfolding read_names
 read_listed class handler = any_of reads_of class handler handled ∙ handled_reads class handler
 
-pub write_listed : (class : Class) (handler : List ℕ) → list_any (is_named class handler) write_names ≡ has_write class handler
+pub write_listed : (class : Class) (handler : List ℕ) → list_any (is_named class handler) write_names ≡ (not (is_gateway class) && has_write class handler)
 unfolding write_names
 write_listed class handler = any_of writes_of class handler handled ∙ handled_writes class handler
+
+-- the rows of a class that is not of the gateway package are those of its handlers
+pub read_listed_outside : (class : Class) (handler : List ℕ) → is_gateway class ≡ false → list_any (is_named class handler) read_names ≡ has_read class handler
+read_listed_outside class handler e = read_listed class handler ∙ ap (λ b. not b && has_read class handler) e
+
+pub write_listed_outside : (class : Class) (handler : List ℕ) → is_gateway class ≡ false → list_any (is_named class handler) write_names ≡ has_write class handler
+write_listed_outside class handler e = write_listed class handler ∙ ap (λ b. not b && has_write class handler) e
 
 -- a name is in a list of borrowed names if and only if it is in the list of the names
 pub among : {B : Type 0} (g : B → List ℕ) (xs : List B) (names : List (List ℕ)) (handler : List ℕ) → map g xs ≡ names → list_any (λ n. bytes_eq (g n) handler) xs ≡ list_any (λ n. bytes_eq n handler) names

@@ -13,7 +13,7 @@ use Rattle.click_classes.specs.declared.state.State.TheVariants as state
 use Rattle.click_engine.specs.declared.run_state.Element.{Element}
 use Rattle.click_base.specs.Blanks.{trimmed}
 use Rattle.click_handlers.specs.Names.{active_port}
-use Rattle.click_handlers.specs.Writes.{number_from, port_below, written_port, written_flag, resized, with_capacity, without_counts, emptied, write_queue, as_state, write_state, with_state, write_value}
+use Rattle.click_handlers.specs.Writes.{number_from, port_below, written_port, written_flag, resized, with_capacity, without_counts, emptied, write_queue, write_querier, as_state, write_state, with_state, write_value}
 use Rattle.click_handlers.specs.declared.fault.HandlerFault.{HandlerFault}
 use Rattle.click_handlers.specs.declared.fault.HandlerFault.TheVariants as fault
 
@@ -168,6 +168,13 @@ module _ (inputs outputs : ℕ) where
         fits = λ h. refitted inputs outputs s (state.InfiniteSource bytes limit burst active 0) refl tt h;
         sound = λ h. tt;
       }))
+  state-kept (state.ARPQuerier querier) handler text t e =
+      let (q, made, is) = made_by state.ARPQuerier (write_querier querier handler text) t e in
+      subst (Kept (state.ARPQuerier querier)) is (record {
+        its_class = refl;
+        fits = λ h. refitted inputs outputs (state.ARPQuerier querier) (state.ARPQuerier q) refl tt h;
+        sound = λ h. tt;
+      })
   state-kept s handler text t e = subst (Kept s) (ok_is s t e) (itself inputs outputs s)
 
 -- ---- elements

@@ -39,6 +39,13 @@ queue_reads = codes "length" ∷ codes "highwater_length" ∷ codes "drops" ∷ 
 abbrev pub queue_writes : List (List ℕ)
 queue_writes = codes "capacity" ∷ codes "reset_counts" ∷ codes "reset" ∷ []
 
+-- the handlers of an ARPQuerier that can be read, and that can be written
+abbrev pub querier_reads : List (List ℕ)
+querier_reads = codes "table" ∷ codes "count" ∷ codes "drops" ∷ []
+
+abbrev pub querier_writes : List (List ℕ)
+querier_writes = codes "insert" ∷ codes "delete" ∷ codes "clear" ∷ codes "reset_counts" ∷ codes "expire" ∷ []
+
 -- the handlers of a class that can be read, in order
 unfoldable pub reads_of : Class → List (List ℕ)
 reads_of class.Queue = queue_reads
@@ -49,6 +56,7 @@ reads_of class.PullSwitch = codes "switch" ∷ []
 reads_of class.Suppressor = active_names
 reads_of class.StaticIPLookup = codes "lookup" ∷ []
 reads_of class.InfiniteSource = codes "active" ∷ codes "count" ∷ []
+reads_of class.ARPQuerier = querier_reads
 reads_of _ = []
 
 -- the handlers of a class that can be written, in order
@@ -60,19 +68,21 @@ writes_of class.Switch = codes "switch" ∷ []
 writes_of class.PullSwitch = codes "switch" ∷ []
 writes_of class.Suppressor = active_names
 writes_of class.InfiniteSource = codes "active" ∷ codes "reset" ∷ []
+writes_of class.ARPQuerier = querier_writes
 writes_of _ = []
 
 -- the handlers of these classes, one class after another, by the names that each class has
 abbrev pub names_by : (Class → List (List ℕ)) → List Class → List HandlerName
 names_by names_of cs = flat_map (λ c. map (of_class c) (names_of c)) cs
 
--- the classes whose elements have handlers, in the order of a table
+-- The classes whose handlers are the rows of a table, in the order of a table. The handlers of the
+-- gateway package have no rows.
 abbrev pub handled : List Class
 handled =
     class.Queue ∷ class.FrontDropQueue ∷ class.Counter ∷ class.Switch ∷ class.PullSwitch ∷ class.Suppressor ∷ class.InfiniteSource ∷
     class.StaticIPLookup ∷ []
 
--- all handlers that can be read, and that can be written
+-- all handlers with a row that can be read, and that can be written
 unfoldable pub read_names : List HandlerName
 read_names = names_by reads_of handled
 

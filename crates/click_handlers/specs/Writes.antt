@@ -1,23 +1,28 @@
 -- An element after a write of a handler (Click element reference, the handlers of each class).
-use Rattle.std.specs.Prelude.{ℕ, ◌+◌, ◌-◌, ◌^◌, min, List, [], length, take, Bool, nat_lt, slice_set, Option, Some, None, Result, Ok, Err, codes, if◌then◌else◌}
+use Rattle.std.specs.Prelude.{ℕ, ◌+◌, ◌-◌, ◌^◌, min, List, [], length, take, drop, Bool, nat_lt, slice_set, Option, Some, None, Result, Ok, Err, codes, if◌then◌else◌}
+use Rattle.std.specs.List.{before_first, position_or_len}
 use Rattle.std.specs.Str.{bytes_eq}
+use Rattle.click_classes.specs.NeighbourWrites.{inserted, without, cleared, recent}
 use Rattle.click_classes.specs.Queues.{Queued}
-use Rattle.click_classes.specs.Values.{truth, decimal_number}
+use Rattle.click_classes.specs.Values.{truth, address, ethernet}
+use Rattle.click_classes.specs.declared.neighbours.Querier.{Querier}
 use Rattle.click_classes.specs.declared.state.State.{State}
 use Rattle.click_classes.specs.declared.state.State.TheVariants as state
 use Rattle.click_classes.specs.declared.fault.ArgFault.{ArgFault}
-use Rattle.click_classes.specs.declared.fault.ArgFault.TheVariants as arg
 use Rattle.click_engine.specs.declared.run_state.Element.{Element}
-use Rattle.click_base.specs.Blanks.{trimmed}
+use Rattle.click_base.specs.Blanks.{is_blank, without_front, trimmed}
+use Rattle.click_base.specs.Numbers.{decimal_number}
+use Rattle.click_base.specs.declared.numbers.NumberFault.{NumberFault}
+use Rattle.click_base.specs.declared.numbers.NumberFault.TheVariants as number
 use Rattle.click_handlers.specs.Names.{active_port}
 use Rattle.click_handlers.specs.declared.fault.HandlerFault.{HandlerFault}
 use Rattle.click_handlers.specs.declared.fault.HandlerFault.TheVariants as fault
 
 -- a number from low to high, in decimal digits only
-abbrev pub as_number : Result ℕ ArgFault → Result ℕ HandlerFault
+abbrev pub as_number : Result ℕ NumberFault → Result ℕ HandlerFault
 as_number (Ok n) = Ok n
-as_number (Err arg.OutOfRange) = Err fault.OutOfRange
-as_number (Err f) = Err fault.BadNumber
+as_number (Err number.BadNumber) = Err fault.BadNumber
+as_number (Err number.OutOfRange) = Err fault.OutOfRange
 
 abbrev pub number_from : ℕ → ℕ → List ℕ → Result ℕ HandlerFault
 number_from low high text = as_number (decimal_number low high text)
@@ -37,6 +42,31 @@ flag_of (Err f) = Err fault.BadFlag
 
 abbrev pub written_flag : List ℕ → Result Bool HandlerFault
 written_flag text = flag_of (truth text)
+
+-- the first word of a text that does not begin with a blank, and the words after it
+abbrev pub first_word : List ℕ → List ℕ
+first_word text = before_first is_blank text
+
+abbrev pub after_word : List ℕ → List ℕ
+after_word text = without_front (drop (position_or_len is_blank text) text)
+
+-- an address
+abbrev pub address_of : Result (List ℕ) ArgFault → Result (List ℕ) HandlerFault
+address_of (Ok bytes) = Ok bytes
+address_of (Err f) = Err fault.BadAddress
+
+abbrev pub written_address : List ℕ → Result (List ℕ) HandlerFault
+written_address text = address_of (address text)
+
+-- an address and its Ethernet address
+abbrev pub both_of : Result (List ℕ) ArgFault → Result (List ℕ) ArgFault → Result (List ℕ × List ℕ) HandlerFault
+both_of (Ok bytes) (Ok ether) = Ok (bytes, ether)
+both_of (Ok bytes) (Err f) = Err fault.BadAddress
+both_of (Err f) ether = Err fault.BadAddress
+
+-- exactly two words; an Ethernet address has no blanks
+abbrev pub written_neighbour : List ℕ → Result (List ℕ × List ℕ) HandlerFault
+written_neighbour text = both_of (address (first_word text)) (ethernet (after_word text))
 
 -- a queue with another capacity: the first packets stay, and the others are counted as drops
 abbrev pub resized : Queued → ℕ → Queued
@@ -64,6 +94,32 @@ write_queue q handler text =
     else if bytes_eq handler (codes "reset_counts") then Ok (without_counts q)
     else Ok (emptied q)
 
+-- a table has room for a new address, or not
+abbrev pub if_room : Option Querier → Result Querier HandlerFault
+if_room (Some q) = Ok q
+if_room None = Err fault.OutOfRange
+
+-- a querier after a write of `insert`, `delete` and `expire`
+abbrev pub with_neighbour : Querier → Result (List ℕ × List ℕ) HandlerFault → Result Querier HandlerFault
+with_neighbour q (Ok both) = if_room (inserted both.0 both.1 q)
+with_neighbour q (Err f) = Err f
+
+abbrev pub without_neighbour : Querier → Result (List ℕ) HandlerFault → Result Querier HandlerFault
+without_neighbour q (Ok address) = Ok (without address q)
+without_neighbour q (Err f) = Err f
+
+abbrev pub with_recent : Querier → Result ℕ HandlerFault → Result Querier HandlerFault
+with_recent q (Ok packets) = Ok (recent packets q)
+with_recent q (Err f) = Err f
+
+abbrev pub write_querier : Querier → List ℕ → List ℕ → Result Querier HandlerFault
+write_querier q handler text =
+    if bytes_eq handler (codes "insert") then with_neighbour q (written_neighbour text)
+    else if bytes_eq handler (codes "delete") then without_neighbour q (written_address text)
+    else if bytes_eq handler (codes "clear") then Ok (cleared q)
+    else if bytes_eq handler (codes "reset_counts") then Ok (record q { drops = 0 })
+    else with_recent q (number_from 0 (2 ^ 64 - 1) text)
+
 abbrev pub as_state : {X : Type 0} → (X → State) → Result X HandlerFault → Result State HandlerFault
 as_state f (Ok x) = Ok (f x)
 as_state f (Err e) = Err e
@@ -88,6 +144,7 @@ write_state inputs outputs (state.Suppressor active) handler text = write_active
 write_state inputs outputs (state.InfiniteSource bytes limit burst active count) handler text =
     if bytes_eq handler (codes "active") then as_state (λ b. state.InfiniteSource bytes limit burst b count) (written_flag text)
     else Ok (state.InfiniteSource bytes limit burst active 0)
+write_state inputs outputs (state.ARPQuerier q) handler text = as_state state.ARPQuerier (write_querier q handler text)
 write_state inputs outputs s handler text = Ok s
 
 abbrev pub with_state : Element → Result State HandlerFault → Result Element HandlerFault

@@ -1,24 +1,28 @@
 //! Theorems about the definitions of handlers.
 
-ghost use Rattle.std.specs.Prelude.{◌≡◌, ◌+◌, ◌<◌, ◌≤◌, ◌^◌, ℕ, List, Bool, Ok, Option, length, codes, decimal, take, IsSome};
+ghost use Rattle.std.specs.Prelude.{◌≡◌, ◌++◌, ◌+◌, ◌<◌, ◌≤◌, ◌^◌, ℕ, List, Bool, false, Ok, Option, Some, length, codes, decimal, take, IsSome};
 ghost use Rattle.std.specs.List.{list_any};
+ghost use Rattle.click_base.specs.Classes.{is_gateway};
 ghost use Rattle.click_base.specs.declared.class.Class.{Class};
 ghost use Rattle.click_classes.specs.Fitting.{FitsPorts};
 ghost use Rattle.click_classes.specs.Queues.{Queued, queue_of, IsSound};
 ghost use Rattle.click_classes.specs.State.{class};
-ghost use Rattle.click_classes.specs.Values.{decimal_number, truth};
+ghost use Rattle.click_classes.specs.Values.{truth};
 ghost use Rattle.click_classes.specs.declared.state.State.TheVariants as state;
 ghost use Rattle.click_handlers.specs.Names.{active_name, has_read, has_write, is_named, read_names, write_names};
 ghost use Rattle.click_base.specs.declared.class.Class.TheVariants as is;
 ghost use Rattle.click_engine.specs.declared.run_state.Element.{Element};
 ghost use Rattle.click_base.specs.Blanks.{trimmed};
-ghost use Rattle.click_handlers.specs.Reads.{read_value, port_text, truth_text};
-ghost use Rattle.click_handlers.specs.Writes.{write_value, resized, written_port};
+ghost use Rattle.click_base.specs.Numbers.{decimal_number};
+ghost use Rattle.click_handlers.specs.Reads.{read_value, neighbour_line, port_text, truth_text};
+ghost use Rattle.click_handlers.specs.Writes.{write_value, resized, written_neighbour, written_port};
 
-/// In the list of all handlers, those of a class are exactly those that its elements have.
+/// In the list of handlers with rows, those of a class are exactly those that its elements have.
+///
+/// The class is not of the gateway package, whose handlers have no rows.
 pub fn all_handlers_are_those_of_the_classes()
-    ensures reads { (of : Class) (handler : List ℕ) → list_any (is_named of handler) read_names ≡ has_read of handler }
-    ensures writes { (of : Class) (handler : List ℕ) → list_any (is_named of handler) write_names ≡ has_write of handler }
+    ensures reads { (of : Class) (handler : List ℕ) → is_gateway of ≡ false → list_any (is_named of handler) read_names ≡ has_read of handler }
+    ensures writes { (of : Class) (handler : List ℕ) → is_gateway of ≡ false → list_any (is_named of handler) write_names ≡ has_write of handler }
 {}
 
 /// The `capacity` that was written to a queue is read back.
@@ -49,6 +53,15 @@ pub fn written_active_is_read()
 pub fn reset_counts_are_zero()
     ensures { (e f : Element) (text any : List ℕ) → class e.state ≡ is.Counter → write_value (codes "reset_counts") e text ≡ Ok f
         → (read_value (codes "count") f any ≡ Ok (decimal 0)) × (read_value (codes "byte_count") f any ≡ Ok (decimal 0)) }
+{}
+
+/// An address that was inserted into the table of an ARPQuerier is listed there.
+///
+/// A read of the table has a line with the address and its Ethernet address.
+pub fn inserted_address_is_listed()
+    ensures { (e f : Element) (text any address ether : List ℕ) → class e.state ≡ is.ARPQuerier → written_neighbour (trimmed text) ≡ Ok (address, ether)
+        → write_value (codes "insert") e text ≡ Ok f
+        → (front : List ℕ) × (back : List ℕ) × (read_value (codes "table") f any ≡ Ok (front ++ (neighbour_line address (Some ether) ++ back))) }
 {}
 
 /// A queue with a new capacity keeps its first packets, in order.

@@ -3,6 +3,7 @@
 #![tactic(auto)]
 
 mod fault;
+mod gateway;
 pub mod laws;
 mod names;
 pub mod plain;
@@ -14,6 +15,7 @@ mod texts;
 mod written;
 
 pub use fault::{HandlerFault, TableFault};
+pub use gateway::{read_gateway, write_gateway};
 pub use names::{has_read, has_write, reads_of, writes_of};
 pub use rows::{ReadCall, ReadRow, WriteCall, WriteRow};
 pub use standard::{TakesRows, TakesTable, with_counted_table, with_rows, with_table};

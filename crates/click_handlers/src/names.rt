@@ -7,7 +7,9 @@ ghost use Rattle.click_handlers.specs.Names.{has_read, has_write, reads_of, writ
 
 use click_base::Class;
 
-/// The classes whose elements have handlers, in the order of a table.
+/// The classes whose handlers are the rows of a table, in the order of a table.
+///
+/// The handlers of the gateway package have no rows.
 pub(crate) const CLASSES_WITH_HANDLERS: [Class; 8] = [
     Class::Queue,
     Class::FrontDropQueue,
@@ -53,6 +55,7 @@ pub fn reads_of(class: Class) -> &'static [&'static [u8]]
         Class::Suppressor => ACTIVE,
         Class::StaticIPLookup => &[b"lookup"],
         Class::InfiniteSource => &[b"active", b"count"],
+        Class::ARPQuerier => &[b"table", b"count", b"drops"],
         _ => &[],
     }
 }
@@ -68,6 +71,7 @@ pub fn writes_of(class: Class) -> &'static [&'static [u8]]
         Class::Switch | Class::PullSwitch => &[b"switch"],
         Class::Suppressor => ACTIVE,
         Class::InfiniteSource => &[b"active", b"reset"],
+        Class::ARPQuerier => &[b"insert", b"delete", b"clear", b"reset_counts", b"expire"],
         _ => &[],
     }
 }

@@ -12,6 +12,7 @@ ghost use Rattle.click_handlers.specs.Writes.{write_value};
 
 mod counter;
 mod lookup;
+pub(crate) mod querier;
 mod queue;
 mod source;
 mod suppressor;
@@ -45,6 +46,7 @@ pub fn read_at(
         State::Suppressor { .. } => suppressor::read_active(alloc, element, text, place as u16),
         State::InfiniteSource { .. } => source::read_at(alloc, element, text, place),
         State::StaticIPLookup { .. } => lookup::read_lookup(alloc, element, text),
+        State::ARPQuerier { .. } => querier::read_at(alloc, element, text, place),
         _ => unreachable!(),
     }
 }
@@ -64,6 +66,7 @@ pub fn write_at(alloc: Global, element: Element, text: &[u8], place: usize) -> W
         State::PullSwitch { .. } => switch::write_pull_switch(element, text),
         State::Suppressor { .. } => suppressor::write_active(element, text, place as u16),
         State::InfiniteSource { .. } => source::write_at(element, text, place),
+        State::ARPQuerier { .. } => querier::write_at(element, text, place),
         _ => unreachable!(),
     }
 }

@@ -1,7 +1,8 @@
-//! The table of all handlers.
+//! The table of the handlers of the thirty classes.
 
-ghost use Rattle.std.specs.Prelude.{◌≡◌, ◌++◌, List, map, IsOk, IsTrue, ◌↔◌, is_some, IfSome, IfNone};
+ghost use Rattle.std.specs.Prelude.{◌≡◌, ◌&&◌, ◌++◌, List, map, not, IsOk, IsTrue, ◌↔◌, is_some, IfSome, IfNone};
 ghost use Rattle.std.specs.List.{list_any};
+ghost use Rattle.click_base.specs.Classes.{is_gateway};
 ghost use Rattle.click_handlers.specs.Names.{HandlerName, of_class, is_named, handled, names_by, read_names, write_names, has_read, has_write};
 
 use crate::fault::TableFault;
@@ -9,7 +10,7 @@ use crate::names::CLASSES_WITH_HANDLERS;
 use crate::rows::{HandlerRow, ReadRow, WriteRow};
 use click_base::Class;
 
-/// The rows of all handlers, in order.
+/// The rows of the handlers of the thirty classes, in order.
 #[derive(Drop)]
 pub struct Table {
     reads: Vec<ReadRow>,
@@ -84,19 +85,19 @@ impl Table {
         Table { reads, writes }
     }
 
-    /// Returns the row of a class's read handler.
+    /// Returns the row of a class's read handler. Classes of the gateway package have no rows.
     #[tactic(auto, unfolding(crate::specs::Names::read_names))]
     pub fn read(&self, class: Class, name: &[u8]) -> Option<&ReadRow>
-        ensures there { is_some result ≡ has_read class name.now }
+        ensures there { is_some result ≡ (not (is_gateway class) && has_read class name.now) }
         ensures row { IfSome result (λ r. (r.now.class ≡ class) × (r.now.name.items ≡ name.now)) }
     {
         row_of(&self.reads, class, name)
     }
 
-    /// Returns the row of a class's write handler.
+    /// Returns the row of a class's write handler. Classes of the gateway package have no rows.
     #[tactic(auto, unfolding(crate::specs::Names::write_names))]
     pub fn write(&self, class: Class, name: &[u8]) -> Option<&WriteRow>
-        ensures there { is_some result ≡ has_write class name.now }
+        ensures there { is_some result ≡ (not (is_gateway class) && has_write class name.now) }
         ensures row { IfSome result (λ r. (r.now.class ≡ class) × (r.now.name.items ≡ name.now)) }
     {
         row_of(&self.writes, class, name)

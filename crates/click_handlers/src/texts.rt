@@ -1,11 +1,14 @@
 //! The texts that handlers read and write.
 
-ghost use Rattle.std.specs.Prelude.{◌≡◌, ◌≢◌, ◌≤◌, ◌++◌, codes, decimal, IfOk, IfErr, OnOk};
-ghost use Rattle.click_handlers.specs.Reads.{truth_text, port_text, dotted, gateway_text, route_text};
-ghost use Rattle.click_handlers.specs.Writes.{number_from, written_port, written_flag};
+ghost use Rattle.std.specs.Prelude.{◌≡◌, ◌≢◌, ◌<◌, ◌≤◌, ◌++◌, length, codes, decimal, IfOk, IfErr, OnOk};
+ghost use Rattle.std.specs.List.{position_or_len};
+ghost use Rattle.click_base.specs.Blanks.{is_blank};
+ghost use Rattle.click_handlers.specs.Reads.{truth_text, port_text, dotted, gateway_text, route_text, hex_char, hex_pair, colon_pair, ether_text, known_text, neighbour_line, neighbour_lines};
+ghost use Rattle.click_handlers.specs.Writes.{number_from, written_port, written_flag, first_word, after_word, written_address, written_neighbour};
 
 use crate::fault::HandlerFault;
-use click_classes::{ArgFault, Entry, decimal_number, truth};
+use click_base::{NumberFault, decimal_number, is_blank, without_front};
+use click_classes::{Entry, Neighbours, address, ethernet, truth};
 use itoa::Buffer;
 use std::alloc::{AllocError, Global};
 
@@ -112,6 +115,94 @@ pub(crate) fn route_text(alloc: Global, entry: Option<Entry>) -> Result<Vec<u8>,
     }
 }
 
+/// Returns a number below 16 as a hexadecimal digit in lower case.
+fn hex_char(number: u8) -> u8
+    requires { number < 16 }
+    ensures { result ≡ hex_char number }
+{
+    if number < 10 {
+        b'0' + number
+    } else {
+        b'a' - 10 + number
+    }
+}
+
+/// Appends a byte as two hexadecimal digits in lower case.
+fn push_pair(text: &mut Vec<u8>, byte: u8) -> Result<(), AllocError>
+    ensures { OnOk result (text.new.items ≡ text.old.items ++ hex_pair byte) }
+{
+    text.extend_from_slice(&[hex_char(byte / 16), hex_char(byte % 16)])
+}
+
+/// Appends a colon, and a byte as two hexadecimal digits in lower case.
+fn push_colon_pair(text: &mut Vec<u8>, byte: u8) -> Result<(), AllocError>
+    ensures { OnOk result (text.new.items ≡ text.old.items ++ colon_pair byte) }
+{
+    text.extend_from_slice(b":")?;
+    push_pair(text, byte)
+}
+
+/// Appends an Ethernet address: six pairs of hexadecimal digits with colons between them.
+fn push_ether(text: &mut Vec<u8>, ether: [u8; 6]) -> Result<(), AllocError>
+    ensures { OnOk result (text.new.items ≡ text.old.items ++ ether_text ether) }
+{
+    let [first, second, third, fourth, fifth, sixth] = ether;
+    push_pair(text, first)?;
+    push_colon_pair(text, second)?;
+    push_colon_pair(text, third)?;
+    push_colon_pair(text, fourth)?;
+    push_colon_pair(text, fifth)?;
+    push_colon_pair(text, sixth)?;
+    Ok(())
+}
+
+/// Appends the Ethernet address of a neighbour, or `-` if it is not known.
+fn push_known(text: &mut Vec<u8>, ether: Option<[u8; 6]>) -> Result<(), AllocError>
+    ensures { OnOk result (text.new.items ≡ text.old.items ++ known_text ether) }
+{
+    match ether {
+        Some(ether) => push_ether(text, ether),
+        None => text.extend_from_slice(b"-"),
+    }
+}
+
+/// Appends the line of a neighbour.
+fn push_neighbour(
+    text: &mut Vec<u8>,
+    address: [u8; 4],
+    ether: Option<[u8; 6]>,
+) -> Result<(), AllocError>
+    ensures { OnOk result (text.new.items ≡ text.old.items ++ neighbour_line address ether) }
+{
+    push_dotted(text, address)?;
+    text.extend_from_slice(b" ")?;
+    push_known(text, ether)?;
+    text.extend_from_slice(b"\n")
+}
+
+/// Appends a line for each neighbour, in the order of the table.
+fn push_neighbours(text: &mut Vec<u8>, table: &Neighbours) -> Result<(), AllocError>
+    ensures { OnOk result (text.new.items ≡ text.old.items ++ neighbour_lines table.now) }
+{
+    for place in 0..table.len() {
+        let entry = table.entry(place);
+        push_neighbour(text, entry.address, entry.ether)?;
+    }
+    Ok(())
+}
+
+/// Returns a line for each neighbour, in the order of the table.
+pub(crate) fn table_text(alloc: Global, table: &Neighbours) -> Result<Vec<u8>, HandlerFault>
+    ensures text { IfOk result (λ text. text.items ≡ neighbour_lines table.now) }
+    ensures memory { IfErr result (λ fault. fault ≡ HandlerFault.NoMemory) }
+{
+    let mut text = Vec::new(alloc);
+    match push_neighbours(&mut text, table) {
+        Ok(()) => Ok(text),
+        Err(_) => Err(HandlerFault::NoMemory),
+    }
+}
+
 /// Parses a number from `low` to `high` in decimal digits only.
 pub(crate) fn number_from(text: &[u8], low: u64, high: u64) -> Result<u64, HandlerFault>
     ensures value { result ≡ number_from low high text.now }
@@ -120,8 +211,8 @@ pub(crate) fn number_from(text: &[u8], low: u64, high: u64) -> Result<u64, Handl
 {
     match decimal_number(text, low, high) {
         Ok(number) => Ok(number),
-        Err(ArgFault::OutOfRange) => Err(HandlerFault::OutOfRange),
-        Err(_) => Err(HandlerFault::BadNumber),
+        Err(NumberFault::BadNumber) => Err(HandlerFault::BadNumber),
+        Err(NumberFault::OutOfRange) => Err(HandlerFault::OutOfRange),
     }
 }
 
@@ -149,5 +240,54 @@ pub(crate) fn written_flag(text: &[u8]) -> Result<bool, HandlerFault>
     match truth(text) {
         Ok(flag) => Ok(flag),
         Err(_) => Err(HandlerFault::BadFlag),
+    }
+}
+
+/// Returns the number of bytes before the first blank.
+fn word_len(text: &[u8]) -> usize
+    ensures len { result ≡ position_or_len is_blank text.now }
+    ensures within { result ≤ length text.now }
+{
+    for (i, byte) in text.iter().enumerate() {
+        if is_blank(*byte) {
+            return i;
+        }
+    }
+    text.len()
+}
+
+/// Splits a text that does not begin with a blank into its first word and the words after it.
+fn cut(text: &[u8]) -> (&[u8], &[u8])
+    ensures word { result.0.now ≡ first_word text.now }
+    ensures rest { result.1.now ≡ after_word text.now }
+{
+    let (word, rest) = text.split_at(word_len(text));
+    (word, without_front(rest))
+}
+
+/// Parses an address.
+pub(crate) fn written_address(text: &[u8]) -> Result<[u8; 4], HandlerFault>
+    ensures value { result ≡ written_address text.now }
+    ensures memory { IfErr result (λ fault. fault ≢ HandlerFault.NoMemory) }
+{
+    match address(text) {
+        Ok(bytes) => Ok(bytes),
+        Err(_) => Err(HandlerFault::BadAddress),
+    }
+}
+
+/// Parses two words: an address and its Ethernet address.
+pub(crate) fn written_neighbour(text: &[u8]) -> Result<([u8; 4], [u8; 6]), HandlerFault>
+    ensures value { result ≡ written_neighbour text.now }
+    ensures memory { IfErr result (λ fault. fault ≢ HandlerFault.NoMemory) }
+{
+    let (word, rest) = cut(text);
+    let bytes = match address(word) {
+        Ok(bytes) => bytes,
+        Err(_) => return Err(HandlerFault::BadAddress),
+    };
+    match ethernet(rest) {
+        Ok(ether) => Ok((bytes, ether)),
+        Err(_) => Err(HandlerFault::BadAddress),
     }
 }

@@ -1,9 +1,11 @@
 -- Numbers and annotations read back.
 use Rattle.std.proofs.Common.{◌≡◌, ℕ, ◌<◌, ◌≤◌, ◌^◌, List, ◌∷◌, ◌++◌, length, Result, Ok, Err, sym, ap, ◌∙◌, arith}
 use Rattle.std.specs.Prelude.{decimal}
-use Rattle.click_classes.specs.Values.{address, decimal_number}
+use Rattle.click_base.specs.Numbers.{decimal_number}
+use Rattle.click_base.specs.declared.numbers.NumberFault.{NumberFault}
+use Rattle.click_base.proofs.Decimals.{decimal_number-inside}
+use Rattle.click_classes.specs.Values.{address}
 use Rattle.click_classes.specs.declared.fault.ArgFault.{ArgFault}
-use Rattle.click_classes.proofs.OfArguments.ValueTexts.{decimal_number-inside}
 use Rattle.click_handlers.specs.Reads.{dotted}
 use Rattle.click_lines.specs.Lines.{AreBytes}
 use Rattle.click_lines.specs.Reading.{before, after}
@@ -18,7 +20,7 @@ pub no_error : {A B : Type 0} (r : Result A B) (x : A) (fault : B) → r ≡ Ok 
 no_error r x fault e f = let both : Ok x ≡ Err fault = sym e ∙ f in cc
 
 -- a number is read from its digits
-pub number_back : (high n : ℕ) (digits : List ℕ) (read : Result ℕ ArgFault) → n < 2 ^ 64 → n ≤ high → decimal n ≡ digits → read ≡ decimal_number 0 high digits → read ≡ Ok n
+pub number_back : (high n : ℕ) (digits : List ℕ) (read : Result ℕ NumberFault) → n < 2 ^ 64 → n ≤ high → decimal n ≡ digits → read ≡ decimal_number 0 high digits → read ≡ Ok n
 number_back high n digits read small fits e is = is ∙ ap (decimal_number 0 high) (sym e) ∙ decimal_number-inside 0 high n small (omega arith) fits
 
 paint_small : (paint : ℕ) → paint < 256 → paint < 2 ^ 64
@@ -31,7 +33,7 @@ paint_text paint destination text l e = sym (before-at 58 (decimal paint) (dotte
 pub destination_text : (paint : ℕ) (destination text : List ℕ) → paint < 256 → decimal paint ++ 58 ∷ dotted destination ≡ text → dotted destination ≡ after 58 text
 destination_text paint destination text l e = sym (after-at 58 (decimal paint) (dotted destination) (lacks-decimal 58 paint apart_58 (paint_small paint l))) ∙ ap (after 58) e
 
-pub paint_back : (paint : ℕ) (destination text : List ℕ) (read : Result ℕ ArgFault) → paint < 256 → decimal paint ++ 58 ∷ dotted destination ≡ text
+pub paint_back : (paint : ℕ) (destination text : List ℕ) (read : Result ℕ NumberFault) → paint < 256 → decimal paint ++ 58 ∷ dotted destination ≡ text
     → read ≡ decimal_number 0 255 (before 58 text) → read ≡ Ok paint
 paint_back paint destination text read l e is =
     number_back 255 paint (before 58 text) read (paint_small paint l) (omega (arith, l)) (paint_text paint destination text l e) is

@@ -8,8 +8,9 @@ ghost use Rattle.click_lines.specs.Reading.{ReadsAnnotations, ReadsPacket, Reads
 use crate::digits::{HexFault, hex_text, packet_of};
 use crate::parts::cut;
 use crate::reply::push_number;
+use click_base::decimal_number;
 use click_base::sequence::Sequence;
-use click_classes::{address, decimal_number};
+use click_classes::address;
 use click_handlers::push_dotted;
 use click_packet::{Packet, StoredPacket};
 use std::alloc::{AllocError, Global};

@@ -10,8 +10,8 @@ use crate::kind::{Kind, kind_of};
 use crate::line::Line;
 use crate::packet::{packet_in, packets_in};
 use crate::parts::cut;
+use click_base::decimal_number;
 use click_base::sequence::Sequence;
-use click_classes::decimal_number;
 use click_router::{Call, DeviceName};
 use std::alloc::{AllocError, Global};
 

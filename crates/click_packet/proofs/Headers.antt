@@ -199,3 +199,15 @@ ttl-with_ttl bytes n low high =
     rw (here, get_or-with_ttl_same bytes n (omega arith)) refl
 
 pub ruleset header_lens = (header_len-some, header_len-short, header_len-past)
+
+-- the lengths of a good header
+pub good-lens : (bytes : List ℕ) (refused : List (List ℕ)) → header_good bytes refused ≡ true →
+    (20 ≤ stated_len bytes) × (stated_len bytes ≤ total_len bytes) × (total_len bytes ≤ length bytes)
+good-lens bytes refused e = let g = (header_good-decides bytes refused).0 e in (g.long, g.holds_header, g.holds_data)
+
+-- a good header has at least 20 bytes
+pub good-not_short : (bytes : List ℕ) (refused : List (List ℕ)) → length bytes < 20 → header_good bytes refused ≡ false
+unfolding header_good header_len
+good-not_short bytes refused h = grind (arith, nat_tests)
+
+pub ruleset good_lens = (good-lens, good-not_short)

@@ -74,3 +74,33 @@ pub fn checksum_at(header: &[u8], ttl: u8) -> [u8; 2]
         + quad(header, 16);
     ((65534 - (total - 1) % 65535) as u16).to_le_bytes()
 }
+
+/// Returns the plain sum of the 16-bit words of the bytes, in network order. An odd last byte is the
+/// high half of a word.
+#[tactic(auto, using(crate::proofs::WordSums::word_steps))]
+fn sum_of_words_in(bytes: &[u8]) -> u64
+    requires { length bytes.now ≤ 65535 }
+    ensures value { result ≡ sum_of_words bytes.now }
+    ensures fits { result ≤ 4294967295 }
+{
+    let mut sum = 0;
+    for at in 0..bytes.len() / 2 {
+        sum += u64::from(bytes[2 * at]) * 256 + u64::from(bytes[2 * at + 1]);
+    }
+    if bytes.len() % 2 == 1 {
+        sum += u64::from(bytes[bytes.len() - 1]) * 256;
+    }
+    sum
+}
+
+/// Returns the ones' complement sum of the 16-bit words of the bytes (RFC 1071).
+pub fn ones_sum_of(bytes: &[u8]) -> u16
+    requires { length bytes.now ≤ 65535 }
+    ensures { result ≡ ones_sum (sum_of_words bytes.now) }
+{
+    let sum = sum_of_words_in(bytes);
+    if sum == 0 {
+        return 0;
+    }
+    ((sum - 1) % 65535 + 1) as u16
+}

@@ -1,6 +1,6 @@
 //! Test scripts: their lines, cases and steps.
 
-use click_classes::decimal_number;
+use click_base::decimal_number;
 use memchr::memchr;
 use std::alloc::{AllocError, AllocFailed, Global};
 

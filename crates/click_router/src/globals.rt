@@ -3,12 +3,12 @@
 ghost use Rattle.std.specs.Prelude.{◌≡◌, ◌++◌, None, Some, is_some, codes, decimal, IfOk, OnOk, MatchOption};
 ghost use Rattle.click_base.specs.Classes.{name};
 ghost use Rattle.click_router.specs.State.{RouterState};
-ghost use Rattle.click_router.specs.Globals.{global_value, is_global, element_list, lines_of};
+ghost use Rattle.click_router.specs.Globals.{global_value, is_global, class_list, element_list, lines_of};
 ghost use Rattle.click_router.specs.One.{is_hotconfig};
 ghost use Rattle.click_router.specs.kept.GlobalNames.{name_of};
 
-use click_base::Class;
-use click_expand::FlatElement;
+use click_base::{CLASSES, Class, GATEWAY_CLASSES};
+use click_expand::{FlatElement, uses_gateway};
 use itoa::Buffer;
 use std::alloc::{AllocError, Global};
 
@@ -94,13 +94,25 @@ pub(crate) fn list_text(alloc: Global, elements: &[FlatElement]) -> Result<Vec<u
     Ok(text)
 }
 
-/// Returns the names of the classes, each on a line.
-pub(crate) fn classes_text(alloc: Global, classes: &[Class]) -> Result<Vec<u8>, AllocError>
-    ensures { IfOk result (λ text. text.items ≡ lines_of name classes.now) }
+/// Appends the names of the classes, each on a line.
+fn push_classes(text: &mut Vec<u8>, classes: &[Class]) -> Result<(), AllocError>
+    ensures { OnOk result (text.new.items ≡ text.old.items ++ lines_of name classes.now) }
+{
+    for class in classes {
+        push_line(text, class.name())?;
+    }
+    Ok(())
+}
+
+/// Returns the names of the thirty classes, each on a line, and after them those of the gateway
+/// package if one of the elements is of such a class.
+pub(crate) fn classes_text(alloc: Global, elements: &[FlatElement]) -> Result<Vec<u8>, AllocError>
+    ensures { IfOk result (λ text. text.items ≡ class_list elements.now) }
 {
     let mut text = Vec::new(alloc);
-    for class in classes {
-        push_line(&mut text, class.name())?;
+    push_classes(&mut text, &CLASSES)?;
+    if uses_gateway(elements) {
+        push_classes(&mut text, &GATEWAY_CLASSES)?;
     }
     Ok(text)
 }

@@ -1,9 +1,13 @@
 //! Answers calls through the rows of a handler table.
+//!
+//! The handlers of the gateway package have no rows. They are called by name.
 
-ghost use Rattle.std.specs.Prelude.{◌≡◌, ◌≢◌, ◌<◌, ◌≤◌, ℕ, List, Result, length, Ok, Err, None, Some, slice_get, slice_index_or, true, IfOk, IfErr, IfSome, MatchOption, MatchResult};
+ghost use Rattle.std.specs.Prelude.{◌≡◌, ◌≢◌, ◌&&◌, ◌<◌, ◌≤◌, ℕ, List, Result, length, not, Ok, Err, None, Some, slice_get, slice_index_or, true, false, IfOk, IfErr, IfSome, MatchOption, MatchResult};
+ghost use Rattle.click_base.specs.Classes.{is_gateway};
 ghost use Rattle.click_classes.specs.State.{class};
 ghost use Rattle.click_engine.specs.RunState.{blank};
 ghost use Rattle.click_handlers.specs.Answers.{IsReadAnswer, IsWriteAnswer, takes_room};
+ghost use Rattle.click_handlers.specs.Names.{has_read, has_write};
 ghost use Rattle.click_handlers.specs.Reads.{read_value};
 ghost use Rattle.click_handlers.specs.Writes.{write_value};
 ghost use Rattle.click_router.specs.One as spec;
@@ -16,7 +20,9 @@ use crate::stored_reply::{CompactReply, StoredReply};
 use click_base::sequence::Sequence;
 use click_base::split;
 use click_engine::{Element, Plant};
-use click_handlers::{HandlerFault, ReadRow, Table, WriteRow};
+use click_handlers::{
+    HandlerFault, ReadRow, Table, WriteRow, has_read, has_write, read_gateway, write_gateway,
+};
 use click_packet::PacketRoom;
 use std::alloc::Global;
 
@@ -65,6 +71,25 @@ fn read_row(
     read_reply(row.answer(alloc, element, text))
 }
 
+/// Reads a handler that has no row.
+///
+/// It is of the gateway package, or the class has no such handler.
+fn read_without_row(
+    element: &Element,
+    alloc: Global,
+    handler: &[u8],
+    text: &[u8],
+) -> Result<StoredReply, StepFault>
+    requires { (not (is_gateway (class element.now.state)) && has_read (class element.now.state) handler.now) ≡ false }
+    ensures { IfOk result (λ reply. reply ≡ spec.read_element element.now handler.now text.now) }
+{
+    let class = element.state.class();
+    if has_read(class, handler) {
+        return read_reply(read_gateway(alloc, element, handler, text));
+    }
+    Ok(StoredReply::refusal(refusal_of(has_write(class, handler))))
+}
+
 /// Reads a handler of an element.
 fn read_element(
     table: &Table,
@@ -78,7 +103,7 @@ fn read_element(
     let class = element.state.class();
     match table.read(class, handler) {
         Some(row) => read_row(row, element, alloc, text),
-        None => Ok(StoredReply::refusal(refusal_of(table.write(class, handler).is_some()))),
+        None => read_without_row(element, alloc, handler, text),
     }
 }
 
@@ -141,6 +166,58 @@ fn write_row(
     write_reply(fault)
 }
 
+/// Writes a handler of the gateway package, of the element at an index.
+fn write_by_name(
+    plant: &mut Plant,
+    at: usize,
+    handler: &[u8],
+    text: &[u8],
+) -> Result<StoredReply, StepFault>
+    requires there { at < length plant.old.elements }
+    requires gateway { is_gateway (class (slice_index_or plant.old.elements at blank).state) ≡ true }
+    requires named { has_write (class (slice_index_or plant.old.elements at blank).state) handler.now ≡ true }
+    ensures answer { MatchResult result
+        (λ reply. spec.written plant.old at (write_value handler.now (slice_index_or plant.old.elements at blank) text.now) ≡ (plant.new, reply))
+        (λ _. plant.new ≡ plant.old) }
+    ensures memory { IfErr result (λ _. takes_room handler.now ≡ true) }
+{
+    let fault = plant.change(
+        at,
+        |element: Element| -> (Element, Option<HandlerFault>)
+            requires gateway { is_gateway (class element.state) ≡ true }
+            requires named { has_write (class element.state) handler.now ≡ true }
+            ensures { IsWriteAnswer handler.entry.now element text.entry.now (record { element = result.0; fault = result.1 }) }
+        {
+            let written = write_gateway(element, handler, text);
+            (written.element, written.fault)
+        },
+    );
+    write_reply(fault)
+}
+
+/// Writes a handler that has no row.
+///
+/// It is of the gateway package, or the class has no such handler.
+fn write_without_row(
+    plant: &mut Plant,
+    at: usize,
+    handler: &[u8],
+    text: &[u8],
+) -> Result<StoredReply, StepFault>
+    requires there { at < length plant.old.elements }
+    requires row { (not (is_gateway (class (slice_index_or plant.old.elements at blank).state)) && has_write (class (slice_index_or plant.old.elements at blank).state) handler.now) ≡ false }
+    ensures answer { MatchResult result
+        (λ reply. spec.write_element plant.old at (slice_index_or plant.old.elements at blank) handler.now text.now ≡ (plant.new, reply))
+        (λ _. plant.new ≡ plant.old) }
+    ensures memory { IfErr result (λ _. takes_room handler.now ≡ true) }
+{
+    let class = plant.element(at).state.class();
+    if has_write(class, handler) {
+        return write_by_name(plant, at, handler, text);
+    }
+    Ok(StoredReply::refusal(refusal_of(has_read(class, handler))))
+}
+
 /// Writes a handler of the element at an index.
 fn write_element(
     table: &Table,
@@ -159,7 +236,7 @@ fn write_element(
     let class = plant.element(at).state.class();
     match table.write(class, handler) {
         Some(row) => write_row(row, plant, at, alloc, text),
-        None => Ok(StoredReply::refusal(refusal_of(table.read(class, handler).is_some()))),
+        None => write_without_row(plant, at, handler, text),
     }
 }
 

@@ -12,7 +12,7 @@ use crate::globals::{GlobalHandler, classes_text, is_hotconfig, list_text, named
 use crate::opening::{Prepared, prepare};
 use crate::stored_reply::{CompactReply, StoredReply};
 use click_base::sequence::Sequence;
-use click_base::{CLASSES, Class, split};
+use click_base::{Class, split};
 use click_engine::{Element, Plant};
 use click_expand::{Flat, flat_text};
 use click_packet::{Packet, PacketRoom, StoredPacket};
@@ -124,7 +124,7 @@ impl RunningConfig {
             GlobalHandler::List => list_text(alloc, self.flat.elements.as_slice()),
             GlobalHandler::Config => Vec::from_slice(alloc, self.text.as_slice()),
             GlobalHandler::FlatConfig => flat_text(alloc, &self.flat),
-            GlobalHandler::Classes => classes_text(alloc, &CLASSES),
+            GlobalHandler::Classes => classes_text(alloc, self.flat.elements.as_slice()),
             GlobalHandler::Overruns => number_text(alloc, self.plant.overruns()),
         }
     }

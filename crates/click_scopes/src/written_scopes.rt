@@ -10,9 +10,10 @@ ghost use Rattle.click_scopes.specs.kept.Nesting.{IsNested};
 ghost use Rattle.click_scopes.specs.kept.Scoped.{AreWrittenScopes, AreSynonyms, ports_in};
 ghost use Rattle.click_scopes.specs.kept.Standing.{kept_link, kept_name, kept_elements, nested_body, AreNestedBodies, written_ports, IsDefined, AddsSynonyms};
 
-use crate::classes::{ClassEntry, ResolvedClass, find};
+use crate::classes::{ClassEntry, ResolvedClass, find, requires_gateway};
 use click_text::syntax::{
-    Body, Chain, ClassReference, Config, Declaration, Element, Head, Link, Statement, WrittenPort,
+    Body, Chain, ClassReference, Config, Declaration, Element, Head, Link, Span, Statement,
+    WrittenPort,
 };
 use std::alloc::{AllocError, Global};
 
@@ -255,13 +256,24 @@ fn entry_of(
             class: Some(ResolvedClass::Compound(*body)),
             older: visible_class,
             original: None,
+            gateway: false,
         }),
         Statement::Synonym { name, class } => Some(ClassEntry {
             name: *name,
             class: find(text, class_table, visible_class, *class),
             older: visible_class,
             original: Some(*class),
+            gateway: false,
         }),
+        Statement::Requirement { text: required } if requires_gateway(text, *required) => {
+            Some(ClassEntry {
+                name: Span { start: 0, end: 0 },
+                class: None,
+                older: visible_class,
+                original: None,
+                gateway: true,
+            })
+        }
         _ => None,
     }
 }

@@ -2,6 +2,7 @@
 -- structure"). A piece is white space, a comment or a token.
 use Rattle.std.specs.Prelude.{◌≡◌, ◌≢◌, ℕ, ◌+◌, ◌*◌, ◌-◌, ◌<◌, ◌≤◌, List, [], ◌∷◌, length, take, drop, Bool, true, false, ◌||◌, ◌&&◌, eqb, leb, nat_lt, codes, Option, Some, None, if◌then◌else◌}
 use Rattle.std.specs.List.{list_all}
+use Rattle.click_base.specs.Numbers.{digit}
 use Rattle.click_text.specs.declared.syntax.Span.{Span}
 use Rattle.click_text.specs.declared.syntax.Token.{Token}
 use Rattle.click_text.specs.declared.syntax.Token.TheVariants as token
@@ -17,9 +18,6 @@ use Rattle.click_text.specs.Faults.{fault}
 -- space, tab, LF, vertical tab, form feed, CR
 abbrev pub white : ℕ → Bool
 white b = eqb b 32 || (leb 9 b && leb b 13)
-
-abbrev pub digit : ℕ → Bool
-digit b = leb 48 b && leb b 57
 
 -- a digit, a letter or `_`
 abbrev pub name_byte : ℕ → Bool

@@ -1,23 +1,15 @@
 -- The bytes that an argument stands for, without its quotes (Click manual, "Configuration
 -- strings").
-use Rattle.std.specs.Prelude.{Vec, ◌≡◌, ℕ, ◌+◌, ◌-◌, ◌*◌, List, [], ◌∷◌, ◌++◌, Bool, true, false, ◌&&◌, eqb, leb, Option, Some, None, option_and_then, if◌then◌else◌}
+use Rattle.std.specs.Prelude.{Vec, ◌≡◌, ℕ, ◌+◌, ◌*◌, List, [], ◌∷◌, ◌++◌, Bool, true, false, eqb, Option, Some, None, option_and_then, if◌then◌else◌}
 use Rattle.std.specs.declared.alloc.Global.{Global}
+use Rattle.click_base.specs.Numbers.{hex_digit_value}
 use Rattle.click_text.specs.declared.items.ItemKind.{ItemKind}
 use Rattle.click_text.specs.declared.items.ItemKind.TheVariants as kind
 use Rattle.click_text.specs.declared.argument_bytes.Step.{Step}
 use Rattle.click_text.specs.declared.argument_bytes.Escape.{Escape}
 use Rattle.click_text.specs.declared.argument_bytes.Escape.TheVariants as escape
-use Rattle.click_text.specs.Pieces.{digit}
 use Rattle.click_text.specs.Spans.{without_ends}
 use Rattle.click_text.specs.Items.{Item, AreItems}
-
--- the value of a hexadecimal digit
-abbrev pub hex_digit_value : ℕ → Option ℕ
-hex_digit_value b =
-    if digit b then Some (b - 48)
-    else if leb 65 b && leb b 70 then Some (b - 55)
-    else if leb 97 b && leb b 102 then Some (b - 87)
-    else None
 
 -- the byte that `\` and this byte stand for
 abbrev pub escaped : ℕ → ℕ

@@ -1,13 +1,14 @@
 //! Unquoting: the bytes that an argument stands for.
 
-ghost use Rattle.std.specs.Prelude.{◌≡◌, ◌<◌, IfOk, IfErr, IfSome};
+ghost use Rattle.std.specs.Prelude.{◌≡◌, IfOk, IfErr, IfSome};
 ghost use Rattle.click_text.specs.Faults.{no_memory};
 ghost use Rattle.click_text.specs.Spans.{without_ends};
-ghost use Rattle.click_text.specs.Unquote.{hex_digit_value, escaped, to, stepped, is_clear, unescaped, plain_item, IsPlain};
+ghost use Rattle.click_text.specs.Unquote.{escaped, to, stepped, is_clear, unescaped, plain_item, IsPlain};
 ghost use Rattle.click_text.specs.kept.Unescaping.{fits_digit, IsExtendedBy};
 
 use crate::items::{ItemKind, first_item};
 use crate::syntax::TextFault;
+use click_base::hex_digit_value;
 use std::alloc::{AllocError, Global};
 
 /// The state of unescaping after some bytes: what is open.
@@ -35,19 +36,6 @@ impl Step {
         ensures { result ≡ to state adds }
     {
         Step { state, adds }
-    }
-}
-
-/// Returns the value of a hexadecimal digit, or `None` for another byte.
-fn hex_digit_value(byte: u8) -> Option<u8>
-    ensures value { result ≡ hex_digit_value byte }
-    ensures small { IfSome result (λ value. value < 16) }
-{
-    match byte {
-        b'0'..=b'9' => Some(byte - b'0'),
-        b'A'..=b'F' => Some(byte - b'A' + 10),
-        b'a'..=b'f' => Some(byte - b'a' + 10),
-        _ => None,
     }
 }
 

@@ -3,10 +3,11 @@
 ghost use Rattle.std.specs.Prelude.{◌≡◌, ◌<◌, ◌≤◌, ◌+◌, ◌^◌, ℕ, eqb, if◌then◌else◌, length, take, slice_index, IfOk, IfSome, IfNone, IsTrue, true, false};
 ghost use Rattle.std.specs.List.{list_all};
 ghost use Rattle.click_text.specs.kept.SingleBytePieces.{mark_of};
-ghost use Rattle.click_text.specs.Pieces.{white, digit, name_byte, word_byte, is_word, ends_comment, IsPiece, Longest, NoPiece, port_spelled, token_of, piece_fault, Reads};
+ghost use Rattle.click_text.specs.Pieces.{white, name_byte, word_byte, is_word, ends_comment, IsPiece, Longest, NoPiece, port_spelled, token_of, piece_fault, Reads};
 
 use crate::strings::string_len;
 use crate::syntax::{Ending, FaultKind, Span, TextFault, Token};
+use click_base::all_digits;
 use std::alloc::{AllocError, Global};
 
 /// The kind of a piece.
@@ -65,12 +66,6 @@ pub(crate) fn is_white(byte: u8) -> bool
     byte == b' ' || (9 <= byte && byte <= 13)
 }
 
-fn is_digit(byte: u8) -> bool
-    ensures { result ≡ digit byte }
-{
-    byte.is_ascii_digit()
-}
-
 fn is_name_byte(byte: u8) -> bool
     ensures { result ≡ name_byte byte }
 {
@@ -113,19 +108,12 @@ fn word_len(text: &[u8]) -> usize
     len
 }
 
-/// Returns whether all bytes are digits.
-fn are_digits(bytes: &[u8]) -> bool
-    ensures { result ≡ list_all digit bytes.now }
-{
-    bytes.iter().all(|byte| is_digit(*byte))
-}
-
 /// Returns the kind of a piece that has the form of a word: a number, a keyword or a word.
 fn word_kind(word: &[u8]) -> Piece
     requires { is_word word.now ≡ true }
     ensures { IsPiece result word.now }
 {
-    if are_digits(word) {
+    if all_digits(word) {
         return Piece::Number;
     }
     if word == b"elementclass".as_slice() {

@@ -1,8 +1,8 @@
 -- Lemmas about lists that are read part by part.
 use Rattle.std.proofs.Common.{◌≡◌, ℕ, ◌+◌, ◌*◌, ◌/◌, ◌<◌, ◌≤◌, List, [], ◌∷◌, ◌++◌, length, get_or, drop, Ok, Err, Result, refl, sym, ap, ◌∙◌, arith, append_assoc, length-drop}
 use Rattle.std.proofs.lemmas.List.{append-nil, drop_more, at_drop_more, at_drop_all}
+use Rattle.click_base.specs.Numbers.{digit_value}
 use Rattle.click_classes.specs.declared.fault.ArgFault.{ArgFault}
-use Rattle.click_classes.specs.Values.{digit_value}
 use Rattle.click_classes.specs.Patterns.{value_of, counted_bits, mask_of}
 use Rattle.click_classes.specs.Steps.{◌>>=◌, each}
 

@@ -6,13 +6,14 @@ use Rattle.std.specs.Option.{ok_or}
 use Rattle.std.proofs.Math.Seq.{take-append_seam, drop-append-add}
 use Rattle.std.proofs.lemmas.List.Folds.{list_all-append}
 use Rattle.std.proofs.lemmas.Bool.Decides.{nat_tests}
-use Rattle.click_text.specs.Pieces.{digit}
+use Rattle.click_base.specs.Numbers.{digit, hex_digit, hexadecimal_in, decimal_in, spelled}
 use Rattle.click_classes.specs.declared.fault.ArgFault.TheVariants as fault
 use Rattle.click_classes.specs.declared.values.groups.Group.TheVariants as kind
-use Rattle.click_classes.specs.Values.{hex_digit, hexadecimal_in, decimal_in, group, separated, address, ethernet, prefix, cleared, spelled}
+use Rattle.click_classes.specs.Values.{group, separated, address, ethernet, prefix, cleared}
 use Rattle.click_classes.specs.ClauseText.{hex_text}
-use Rattle.click_classes.proofs.OfNumbers.Decimals.{digits-decimal, position-behind, position-none}
-use Rattle.click_classes.proofs.OfArguments.ValueTexts.{decimal_in-read, address-read}
+use Rattle.click_base.proofs.Decimals.{digits-decimal, decimal_in-read}
+use Rattle.click_classes.proofs.OfArguments.Separators.{position-behind, position-none}
+use Rattle.click_classes.proofs.OfArguments.ValueTexts.{address-read}
 use Rattle.click_classes.proofs.OfPatterns.ClauseTexts.{is_digit}
 use Rattle.click_classes.proofs.OfArguments.Groups.{preceded, separated_next, separated_last}
 

@@ -4,12 +4,13 @@ use Rattle.std.specs.Prelude.{position, option_map, option_and_then, slice_index
 use Rattle.std.specs.Option.{ok_or}
 use Rattle.std.proofs.lemmas.Nat.{pow_pos}
 use Rattle.std.proofs.Math.Nat.{mul-div_cancel}
+use Rattle.click_base.specs.Numbers.{decimal_in}
 use Rattle.click_classes.specs.declared.fault.ArgFault.{ArgFault}
 use Rattle.click_classes.specs.declared.fault.ArgFault.TheVariants as fault
 use Rattle.click_classes.specs.declared.values.groups.Group.{Group}
 use Rattle.click_classes.specs.declared.values.groups.Group.TheVariants as kind
 use Rattle.click_classes.specs.declared.values.prefix.Prefix.{Prefix}
-use Rattle.click_classes.specs.Values.{group, separated, address, first_bits, cleared, prefix_of, whole, prefix_at, prefix, decimal_in}
+use Rattle.click_classes.specs.Values.{group, separated, address, first_bits, cleared, prefix_of, whole, prefix_at, prefix}
 
 first_bits_again : (bits b : ℕ) → first_bits bits (first_bits bits b) ≡ first_bits bits b
 unfolding first_bits

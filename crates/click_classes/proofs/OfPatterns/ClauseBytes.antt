@@ -4,8 +4,8 @@ use Rattle.std.specs.Prelude.{nat_le, position, slice_index}
 use Rattle.std.specs.List.{list_all}
 use Rattle.std.proofs.lemmas.Bool.{cases_Bool}
 use Rattle.std.proofs.lemmas.Bool.Decides.{nat_tests}
+use Rattle.click_base.specs.Numbers.{hex_digit, decimal_in}
 use Rattle.click_classes.specs.declared.values.pattern.Clause.{Clause}
-use Rattle.click_classes.specs.Values.{hex_digit, decimal_in}
 use Rattle.click_classes.specs.Patterns.{pattern_digit, value_of, mask_of, are_digits, is_mask, clause_of, with_mask, with_offset, with_digits, clause}
 use Rattle.click_classes.specs.Matches.{agrees, holds}
 use Rattle.click_classes.proofs.OfPatterns.MaskedBytes.{agrees-each, each-agrees}

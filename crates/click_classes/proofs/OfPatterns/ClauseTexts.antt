@@ -7,12 +7,11 @@ use Rattle.std.proofs.lemmas.List.{length-replicate}
 use Rattle.std.proofs.lemmas.Fmt.{decimal_nonempty}
 use Rattle.std.proofs.lemmas.Bool.{cases_Bool, cases_lt}
 use Rattle.std.proofs.lemmas.Bool.Decides.{nat_tests}
-use Rattle.click_text.specs.Pieces.{digit}
-use Rattle.click_classes.specs.Values.{hex_digit, digit_value, decimal_in}
+use Rattle.click_base.specs.Numbers.{digit, hex_digit, digit_value, decimal_in}
 use Rattle.click_classes.specs.Patterns.{pattern_digit, counted_bits, value_of, mask_of, are_digits, clause_of, unsigned, clause}
 use Rattle.click_classes.specs.ClauseText.{Halves, IsHalf, AreHalves, AreBytes, hex_digit_of, half_digit, halves_text, hex_text, wanted, bits_of, counted, bits_under, counted_under, sign}
-use Rattle.click_classes.proofs.OfNumbers.Decimals.{digits-decimal, position-behind, position-none}
-use Rattle.click_classes.proofs.OfArguments.ValueTexts.{decimal_in-read}
+use Rattle.click_base.proofs.Decimals.{digits-decimal, decimal_in-read}
+use Rattle.click_classes.proofs.OfArguments.Separators.{position-behind, position-none}
 use Rattle.click_classes.proofs.OfPatterns.Clauses.{unsigned_masked, unsigned_full}
 
 -- ---- one digit

@@ -3,8 +3,8 @@ use Rattle.std.proofs.Common.{◌≡◌, ◌==◌, ℕ, ◌+◌, ◌<◌, ◌%�
 use Rattle.std.specs.Prelude.{◌&&◌, nat_le, position, replicate}
 use Rattle.std.specs.List.{list_all}
 use Rattle.std.proofs.lemmas.Bool.Decides.{nat_tests}
+use Rattle.click_base.specs.Numbers.{decimal_in}
 use Rattle.click_classes.specs.declared.fault.ArgFault.TheVariants as fault
-use Rattle.click_classes.specs.Values.{decimal_in}
 use Rattle.click_classes.specs.Patterns.{are_digits, pattern_digit, clause_of, unsigned}
 
 and_false : (a b : Bool) → ((a && false) && b) ≡ false

@@ -1,13 +1,17 @@
 -- The ports that an element names exist.
 use Rattle.std.proofs.Common.{◌≡◌, ℕ, ◌+◌, ◌<◌, ◌≤◌, List, [], ◌∷◌, length, take, ◌==◌, nat_lt, Bool, true, false, Option, Some, None, if◌then◌else◌, min, max, refl, sym, ap, ◌∙◌, arith}
-use Rattle.std.specs.Prelude.{position}
+use Rattle.std.specs.Prelude.{position, slice_get, ◌&&◌, nat_le}
+use Rattle.click_gateway.specs.Addresses.{is_host, ethernet_of_group}
+use Rattle.click_gateway.specs.Arp.{Sender, sender}
+use Rattle.click_classes.specs.Neighbours.{Neighbour, place_of}
+use Rattle.click_classes.specs.declared.neighbours.Querier.{Querier}
 use Rattle.std.proofs.Math.Nat.{le-max_left, le-max_right}
 use Rattle.std.proofs.lemmas.Bool.{cond_both}
 use Rattle.std.proofs.lemmas.Bool.Decides.{nat_tests}
 use Rattle.std.proofs.lemmas.List.{length-take}
 use Rattle.std.proofs.lemmas.List.Quantifiers.{position-Some}
 use Rattle.click_packet.specs.Packet.{Packet}
-use Rattle.click_classes.specs.Acts.{act, pass, gives, pushed_to, copied_to, is_active, front_dropped, switched, routed, classified, tries, PushEffect}
+use Rattle.click_classes.specs.Acts.{counting, sent_to, asked, using, resolved_by, resolved_at, resolved, forwarded, let_go, knowing, learnt_at, learnt_of, learnt, act, pass, gives, pushed_to, copied_to, is_active, front_dropped, switched, routed, classified, tries, PushEffect}
 use Rattle.click_classes.specs.Ports.{outputs_for}
 use Rattle.click_classes.specs.Fitting.{FitsPorts, AreThere, AreAsked}
 use Rattle.click_classes.specs.Matches.{matches}
@@ -87,6 +91,46 @@ routed-there : (outputs : ℕ) (s : State) (o : Option Entry) (p : Packet) → (
 routed-there outputs s None p h c = omega (arith, c)
 routed-there outputs s (Some e) p h c = h e refl
 
+-- a querier's packets go to output 0, or to 1 where it is there
+module _ (outputs : ℕ) (some : 1 ≤ outputs) where
+  sent-there : (q : Querier) (p : Packet) (to : List ℕ) → AreThere outputs (sent_to q p to).outputs
+  sent-there q p to c = either-there outputs (nat_le (14 + length p.bytes) 1600) _ _ (λ c. some) (λ c. omega (arith, c)) c
+
+  asked-there : (q : Querier) (p : Packet) → AreThere outputs (asked outputs q p).outputs
+  asked-there q p c = grind (arith, nat_tests)
+
+  by-there : (q : Querier) (p : Packet) (place : ℕ) (n : Neighbour) (o : Option (List ℕ)) → AreThere outputs (resolved_by outputs q p place n o).outputs
+  by-there q p place n None c = asked-there q p c
+  by-there q p place n (Some to) c = sent-there (using q place n) p to c
+
+  at-there : (q : Querier) (p : Packet) (place : ℕ) (o : Option Neighbour) → AreThere outputs (resolved_at outputs q p place o).outputs
+  at-there q p place None c = omega (arith, c)
+  at-there q p place (Some n) c = by-there q p place n n.ether c
+
+  resolved-there : (q : Querier) (p : Packet) (o : Option ℕ) → AreThere outputs (resolved outputs q p o).outputs
+  resolved-there q p None c = either-there outputs (is_host p.destination && nat_lt (length q.table) 256) _ _ (asked-there q p) (λ c. omega (arith, c)) c
+  resolved-there q p (Some place) c = at-there q p place (slice_get q.table place) c
+
+  forwarded-there : (q : Querier) (p : Packet) (o : Option (List ℕ)) → AreThere outputs (forwarded outputs q p o).outputs
+  forwarded-there q p None c = resolved-there q p (place_of q.table p.destination) c
+  forwarded-there q p (Some group) c = sent-there q p group c
+
+  gone-there : (q : Querier) (p : Packet) (to : List ℕ) (o : Option Packet) → AreThere outputs (let_go q p to o).outputs
+  gone-there q p to None c = omega (arith, c)
+  gone-there q p to (Some waited) c = sent-there q waited to c
+
+  learnt_at-there : (q : Querier) (p : Packet) (who : Sender) (place : ℕ) (o : Option Neighbour) → AreThere outputs (learnt_at q p who place o).outputs
+  learnt_at-there q p who place None c = omega (arith, c)
+  learnt_at-there q p who place (Some n) c = gone-there (knowing q place n who.ether) p who.ether n.waiting c
+
+  learnt_of-there : (q : Querier) (p : Packet) (who : Sender) (o : Option ℕ) → AreThere outputs (learnt_of q p who o).outputs
+  learnt_of-there q p who None c = omega (arith, c)
+  learnt_of-there q p who (Some place) c = learnt_at-there q p who place (slice_get q.table place) c
+
+  learnt-there : (q : Querier) (p : Packet) (o : Option Sender) → AreThere outputs (learnt q p o).outputs
+  learnt-there q p None c = omega (arith, c)
+  learnt-there q p (Some who) c = learnt_of-there q p who (place_of q.table who.ip) c
+
 pub act-there : (inputs outputs input : ℕ) (s : State) (p : Packet) → FitsPorts inputs outputs s → input < inputs → AreThere outputs (act outputs s input p).outputs
 unfolding act pass
 act-there inputs outputs input (state.Queue q drops highest) p h i c = either-there outputs (length q.packets == q.capacity) _ _ (λ k. omega (arith, k)) (λ k. omega (arith, k)) c
@@ -124,6 +168,11 @@ act-there inputs outputs input (state.EtherEncap header) p h i c = pushed-there 
 act-there inputs outputs input (state.InfiniteSource b l u a n) p h i c = pushed-there outputs verdict.Dropped h.outputs_from c
 act-there inputs outputs input (state.FromDevice d) p h i c = pushed-there outputs verdict.Dropped h.outputs_from c
 act-there inputs outputs input (state.ToDevice d) p h i c = omega (arith, c)
+act-there inputs outputs input (state.ARPResponder stations) p h i c = pushed-there outputs (pass (state.ARPResponder stations) p).verdict h.outputs_from c
+act-there inputs outputs input (state.ICMPError r) p h i c = pushed-there outputs (pass (state.ICMPError r) p).verdict h.outputs_from c
+act-there inputs outputs input state.ICMPPingResponder p h i c = pushed-there outputs (pass state.ICMPPingResponder p).verdict h.outputs_from c
+act-there inputs outputs input (state.ARPQuerier q) p h i c =
+    either-there outputs (input == 0) _ _ (forwarded-there outputs h.outputs_from (counting q) p (ethernet_of_group p.destination)) (learnt-there outputs h.outputs_from q p (sender p.bytes)) c
 
 pub gives-there : (inputs outputs input : ℕ) (s : State) (p : Packet) → AreThere outputs (gives inputs outputs s input p).copies
 unfolding gives
@@ -158,4 +207,7 @@ tries-there inputs outputs output (state.GetIPAddress n) h o c = (omega (arith, 
 tries-there inputs outputs output (state.CheckIPHeader rs) h o c = (omega (arith, h.inputs_from), omega (arith, h.inputs_from))
 tries-there inputs outputs output state.DecIPTTL h o c = (omega (arith, h.inputs_from), omega (arith, h.inputs_from))
 tries-there inputs outputs output (state.EtherEncap header) h o c = (omega (arith, h.inputs_from), omega (arith, h.inputs_from))
+tries-there inputs outputs output (state.ARPResponder stations) h o c = (omega (arith, h.inputs_from), omega (arith, h.inputs_from))
+tries-there inputs outputs output (state.ICMPError r) h o c = (omega (arith, h.inputs_from), omega (arith, h.inputs_from))
+tries-there inputs outputs output state.ICMPPingResponder h o c = (omega (arith, h.inputs_from), omega (arith, h.inputs_from))
 tries-there inputs outputs output s h o c = absurd (omega (arith, c))

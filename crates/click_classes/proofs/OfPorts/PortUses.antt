@@ -6,6 +6,7 @@ use Rattle.std.proofs.lemmas.Bool.{cases_Bool}
 use Rattle.std.proofs.lemmas.Bool.Decides.{nat_tests}
 use Rattle.std.specs.List.{AllZip}
 use Rattle.click_text.specs.Words.{AreWords}
+use Rattle.click_base.specs.Numbers.{within}
 use Rattle.click_base.specs.declared.class.Class.{Class}
 use Rattle.click_base.specs.declared.class.Class.TheVariants as is
 use Rattle.click_classes.specs.declared.fault.ArgFault.{ArgFault}
@@ -15,12 +16,12 @@ use Rattle.click_classes.specs.declared.state.State.TheVariants as state
 use Rattle.click_classes.specs.declared.values.entry.Entry.{Entry}
 use Rattle.click_classes.specs.Ports.{ports, at_least, up_to_256, outputs_for, counts}
 use Rattle.click_classes.specs.Entries.{word, entry_of, entry, has_prefix, with_entry, table}
-use Rattle.click_classes.specs.Made.{argument_at, given_or, optional, addresses, source_bytes, without_arguments, suppressor, capacity, empty, queue, front_drop_queue, switch_port, switch, pull_switch, copies, tee, pull_tee, only_number, paint, paint_tee, strip, check_length, get_ip_address, ether_header, ether_encap, device, from_device, to_device, classifier, static_ip_lookup, check_ip_header, infinite_source, FirstStandsFor, ByWords, IsFresh}
+use Rattle.click_classes.specs.Made.{argument_at, given_or, optional, addresses, source_bytes, without_arguments, suppressor, capacity, empty, queue, front_drop_queue, switch_port, switch, pull_switch, copies, tee, pull_tee, only_number, paint, paint_tee, strip, check_length, get_ip_address, ether_header, ether_encap, device, from_device, to_device, classifier, static_ip_lookup, check_ip_header, infinite_source, station, arp_responder, querier, arp_querier, error_kind, icmp_error, FirstStandsFor, ByWords, IsFresh}
 use Rattle.click_classes.specs.Patterns.{pattern}
 use Rattle.click_classes.specs.State.{class}
 use Rattle.click_classes.specs.Steps.{◌>>=◌, each}
 use Rattle.click_classes.specs.Uses.{HasUse}
-use Rattle.click_classes.specs.Values.{number, within, number_in, number_or_minus_one, some, prefix, address, ethernet, truth}
+use Rattle.click_classes.specs.Values.{number, as_argument, number_in, number_or_minus_one, some, prefix, address, ethernet, truth}
 
 -- if both steps succeed, the first one succeeds
 pub both_ok : {A B : Type 0} (r : Result A ArgFault) (f : A → Result B ArgFault) (b : B) → Ok b ≡ (r >>= f) → (a : A) × (r ≡ Ok a) × (Ok b ≡ f a)
@@ -49,7 +50,7 @@ pub given : (fits : Bool) (argument : Option (List ℕ)) (state_of : Option (Opt
 given true argument state_of s p = p
 given false argument state_of s e = cc
 
-within_bound : (low high : ℕ) (o : Option ℕ) (n : ℕ) → Ok n ≡ within low high o → n ≤ high
+within_bound : (low high : ℕ) (o : Option ℕ) (n : ℕ) → Ok n ≡ as_argument (within low high o) → n ≤ high
 within_bound low high None n e = cc
 within_bound low high (Some m) n e = grind (arith, nat_tests)
 
@@ -183,9 +184,27 @@ well_infinite_source first args s h =
     let e = both_ok (optional args 3 true truth) _ s d.2 in
     well is.InfiniteSource (state.InfiniteSource a.0 b.0 d.0 e.0 0) s e.2 refl only_out
 
+well_arp_querier : (args : List (List ℕ)) (s : State) → Ok s ≡ arp_querier args → IsWell is.ARPQuerier s
+unfolding arp_querier
+well_arp_querier args s h =
+    let whole = taken (nat_le 2 (length args) && nat_le (length args) 2) _ s h in
+    let a = both_ok (address (argument_at args 0)) _ s whole in
+    let b = both_ok (ethernet (argument_at args 1)) _ s a.2 in
+    well is.ARPQuerier (state.ARPQuerier (querier a.0 b.0)) s b.2 refl (ranges 2 2 1 2 (omega arith) (omega arith))
+
+well_icmp_error : (args : List (List ℕ)) (s : State) → Ok s ≡ icmp_error args → IsWell is.ICMPError s
+unfolding icmp_error
+well_icmp_error args s h =
+    let whole = taken (nat_le 2 (length args) && nat_le (length args) 4) _ s h in
+    let a = both_ok (address (argument_at args 0)) _ s whole in
+    let b = both_ok (error_kind (argument_at args 1)) _ s a.2 in
+    let d = both_ok (optional args 2 0 (number_in 0 255)) _ s b.2 in
+    let e = both_ok (optional args 3 0 (number_in 0 65535)) _ s d.2 in
+    well is.ICMPError (state.ICMPError (record { own = a.0; kind = b.0; code = d.0; mtu = e.0 })) s e.2 refl one_one
+
 -- a first state is of its class, and some numbers of ports fit its counts
 pub first_well : (c : Class) (args : List (List ℕ)) (s : State) → IsFresh c args (Ok s) → IsWell c s
-unfolding queue front_drop_queue switch pull_switch tee pull_tee paint paint_tee strip check_length classifier get_ip_address static_ip_lookup check_ip_header from_device to_device
+unfolding queue front_drop_queue switch pull_switch tee pull_tee paint paint_tee strip check_length classifier get_ip_address static_ip_lookup check_ip_header from_device to_device arp_responder
 first_well is.Queue args s h = well_of (capacity args) is.Queue (λ n. state.Queue (empty n) 0 0) s h (λ _. refl) (λ _ _. one_one)
 first_well is.FrontDropQueue args s h = well_of (capacity args) is.FrontDropQueue (λ n. state.FrontDropQueue (empty n) 0 0) s h (λ _. refl) (λ _ _. one_one)
 first_well is.Unqueue args s h = well_plain is.Unqueue state.Unqueue s args h refl one_one
@@ -216,3 +235,7 @@ first_well is.EtherEncap args s h = well_ether_encap args s h
 first_well is.InfiniteSource args s h = let w = given (nat_le 0 (length args) && nat_le (length args) 4) (slice_get args 0) (λ first. infinite_source first args) s h in well_infinite_source w.0 args s w.2
 first_well is.FromDevice args s h = well_of (device args) is.FromDevice state.FromDevice s h (λ _. refl) (λ _ _. only_out)
 first_well is.ToDevice args s h = well_of (device args) is.ToDevice state.ToDevice s h (λ _. refl) (λ _ _. only_in)
+first_well is.ARPResponder args s h = let w = by_words 1 256 arp_responder args s h in well_of (each station w.0) is.ARPResponder state.ARPResponder s w.2 (λ _. refl) (λ _ _. one_or_two)
+first_well is.ARPQuerier args s h = well_arp_querier args s h
+first_well is.ICMPError args s h = well_icmp_error args s h
+first_well is.ICMPPingResponder args s h = well_plain is.ICMPPingResponder state.ICMPPingResponder s args h refl one_or_two

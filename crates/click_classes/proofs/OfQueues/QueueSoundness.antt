@@ -3,14 +3,18 @@ use Rattle.std.proofs.Common.{◌≡◌, ℕ, ◌+◌, ◌≤◌, List, [], ◌�
 use Rattle.std.proofs.lemmas.Bool.{cond_both, eqb-false}
 use Rattle.click_packet.specs.Header.{ttl}
 use Rattle.click_packet.specs.Packet.{Packet}
-use Rattle.click_classes.specs.Acts.{act, pass, gives, stored, emission, is_active, queued, front_queued, front_dropped, switched, routed, classified, aged, first_of, fresh_packet, up_by, PassEffect, PushEffect, Stored}
+use Rattle.click_classes.specs.Acts.{made_or, act, pass, gives, stored, emission, is_active, queued, front_queued, front_dropped, switched, routed, classified, aged, first_of, fresh_packet, up_by, PassEffect, PushEffect, Stored}
+use Rattle.click_classes.specs.Gateway.{arp_reply, error_report, ping_reply}
+use Rattle.click_classes.specs.Settings.{settings}
+use Rattle.click_classes.specs.declared.neighbours.Querier.{Querier}
+use Rattle.click_classes.specs.declared.packet_effects.Verdict.{Verdict}
 use Rattle.click_classes.specs.Routes.{route}
 use Rattle.click_classes.specs.PacketList.{PacketList}
 use Rattle.click_classes.specs.Queues.{IsSound}
 use Rattle.click_classes.specs.declared.state.State.{State}
 use Rattle.click_classes.specs.declared.state.State.TheVariants as state
 use Rattle.click_classes.specs.declared.values.entry.Entry.{Entry}
-use Rattle.click_classes.proofs.OfStates.StateSettings.{one_of}
+use Rattle.click_classes.proofs.OfStates.StateSettings.{one_of, act-settings}
 
 -- one of two effects, both of which are sound
 acts : (b : Bool) (x y : PushEffect) → IsSound x.state → IsSound y.state → IsSound (if b then x else y).state
@@ -23,10 +27,17 @@ aged-sound : (p : Packet) (hops : Option ℕ) → IsSound (aged p hops).state
 aged-sound p None = tt
 aged-sound p (Some hops) = passes (nat_le hops 1) _ _ tt tt
 
+made-sound : (s : State) (o : Option Packet) (p : Packet) (f : Verdict) → IsSound s → IsSound (made_or s o p f).state
+made-sound s None p f h = h
+made-sound s (Some made) p f h = h
+
 pub pass-sound : (s : State) (p : Packet) → IsSound s → IsSound (pass s p).state
 unfolding pass
 pass-sound state.DecIPTTL p h = aged-sound p (ttl p.bytes)
 pass-sound (state.EtherEncap header) p h = passes (nat_le (length header + length p.bytes) 1600) _ _ tt tt
+pass-sound (state.ARPResponder stations) p h = made-sound (state.ARPResponder stations) (arp_reply stations p) p _ tt
+pass-sound (state.ICMPError r) p h = made-sound (state.ICMPError r) (error_report r p) p _ tt
+pass-sound state.ICMPPingResponder p h = made-sound state.ICMPPingResponder (ping_reply p) p _ tt
 pass-sound _ p h = h
 
 -- the packet is appended if there is room
@@ -62,6 +73,12 @@ routed-sound : (s : State) (o : Option Entry) (p : Packet) → IsSound s → IsS
 routed-sound s None p h = h
 routed-sound s (Some e) p h = h
 
+-- a querier has no queue
+no-queue : (s : State) (q : Querier) → settings s ≡ settings (state.ARPQuerier q) → IsSound s
+no-queue (state.Queue l d h) q e = cc
+no-queue (state.FrontDropQueue l d h) q e = cc
+no-queue _ q e = tt
+
 pub act-sound : (outputs input : ℕ) (s : State) (p : Packet) → IsSound s → IsSound (act outputs s input p).state
 unfolding act
 act-sound outputs input (state.Queue q drops highest) p h = queued-sound q drops highest p h
@@ -72,6 +89,7 @@ act-sound outputs input (state.Tee n) p h = tt
 act-sound outputs input (state.Suppressor active) p h = acts (is_active active input) _ _ tt tt
 act-sound outputs input (state.Classifier patterns) p h = switched-sound (state.Classifier patterns) (classified patterns p.bytes) p tt
 act-sound outputs input (state.StaticIPLookup entries) p h = routed-sound (state.StaticIPLookup entries) (route entries p.destination) p tt
+act-sound outputs input (state.ARPQuerier q) p h = no-queue (act outputs (state.ARPQuerier q) input p).state q (act-settings outputs input (state.ARPQuerier q) p)
 act-sound outputs input s p h = pass-sound s p h
 
 pub gives-sound : (inputs outputs input : ℕ) (s : State) (p : Packet) → IsSound s → IsSound (gives inputs outputs s input p).state

@@ -5,12 +5,12 @@ use Rattle.std.specs.List.{All}
 use Rattle.std.proofs.lemmas.Bool.{cases_Bool}
 use Rattle.std.proofs.lemmas.Bool.Decides.{nat_tests}
 use Rattle.std.proofs.lemmas.List.Elements.{All-nil, All-push}
-use Rattle.click_text.specs.Pieces.{digit}
+use Rattle.click_base.specs.Numbers.{digit, at_most, decimal_in, is_run, spelled}
 use Rattle.click_classes.specs.declared.fault.ArgFault.{ArgFault}
 use Rattle.click_classes.specs.declared.values.entry.Entry.{Entry}
 use Rattle.click_classes.specs.declared.values.prefix.Prefix.{Prefix}
 use Rattle.click_classes.specs.Entries.{word, entry_of, entry, with_entry, table}
-use Rattle.click_classes.specs.Values.{address, at_most, cleared, decimal_in, is_run, number_in, prefix, prefix_at, prefix_of, spelled, whole}
+use Rattle.click_classes.specs.Values.{address, cleared, number_in, prefix, prefix_at, prefix_of, whole}
 use Rattle.click_classes.specs.kept.Rows.{IsShort}
 use Rattle.click_classes.proofs.OfPorts.PortUses.{both_ok, with_entry_is}
 

@@ -6,11 +6,11 @@ use Rattle.click_base.specs.declared.class.Class.TheVariants as is
 use Rattle.click_classes.specs.declared.fault.ArgFault.{ArgFault}
 use Rattle.click_classes.specs.declared.state.State.{State}
 use Rattle.click_classes.specs.declared.state.State.TheVariants as state
-use Rattle.click_classes.specs.Made.{optional, source_bytes, without_arguments, capacity, empty, queue, front_drop_queue, infinite_source, IsFresh}
+use Rattle.click_classes.specs.Made.{argument_at, querier, arp_querier, optional, source_bytes, without_arguments, capacity, empty, queue, front_drop_queue, infinite_source, IsFresh}
 use Rattle.click_classes.specs.Queues.{IsSound}
 use Rattle.click_classes.specs.Settings.{settings}
 use Rattle.click_classes.specs.State.{class}
-use Rattle.click_classes.specs.Values.{number_in, number_or_minus_one, truth}
+use Rattle.click_classes.specs.Values.{address, ethernet, number_in, number_or_minus_one, truth}
 use Rattle.click_classes.proofs.OfPorts.PortUses.{both_ok, taken, given, first_well}
 
 -- the classes whose states packets change
@@ -21,6 +21,7 @@ changes is.Counter = true
 changes is.RoundRobinSwitch = true
 changes is.RoundRobinSched = true
 changes is.InfiniteSource = true
+changes is.ARPQuerier = true
 changes c = false
 
 stays : (s : State) → changes (class s) ≡ false → settings s ≡ s
@@ -30,6 +31,7 @@ stays (state.Counter count byte_count) e = cc
 stays (state.RoundRobinSwitch next) e = cc
 stays (state.RoundRobinSched next) e = cc
 stays (state.InfiniteSource bytes limit burst active count) e = cc
+stays (state.ARPQuerier q) e = cc
 stays _ e = refl
 
 begins : (t s : State) → ◌≡◌ {A = Result State ArgFault} (Ok s) (Ok t) → settings t ≡ t → settings s ≡ s
@@ -48,6 +50,14 @@ source-begins first args s h =
     let e = both_ok (optional args 3 true truth) _ s d.2 in
     begins (state.InfiniteSource a.0 b.0 d.0 e.0 0) s e.2 refl
 
+querier-begins : (args : List (List ℕ)) (s : State) → Ok s ≡ arp_querier args → settings s ≡ s
+unfolding arp_querier
+querier-begins args s h =
+    let whole = taken (nat_le 2 (length args) && nat_le (length args) 2) _ s h in
+    let a = both_ok (address (argument_at args 0)) _ s whole in
+    let b = both_ok (ethernet (argument_at args 1)) _ s a.2 in
+    begins (state.ARPQuerier (querier a.0 b.0)) s b.2 refl
+
 pub fresh-begins : (c : Class) (args : List (List ℕ)) (s : State) → IsFresh c args (Ok s) → settings s ≡ s
 unfolding queue front_drop_queue
 fresh-begins is.Queue args s h = let a = both_ok (capacity args) _ s h in begins (state.Queue (empty a.0) 0 0) s a.2 refl
@@ -58,6 +68,7 @@ fresh-begins is.RoundRobinSched args s h = begins_plain (state.RoundRobinSched 0
 fresh-begins is.InfiniteSource args s h =
     let w = given (nat_le 0 (length args) && nat_le (length args) 4) (slice_get args 0) (λ first. infinite_source first args) s h in
     source-begins w.0 args s w.2
+fresh-begins is.ARPQuerier args s h = querier-begins args s h
 fresh-begins c args s h = stays s (ap changes (first_well c args s h).0)
 
 settings-sound : (s : State) → IsSound (settings s)

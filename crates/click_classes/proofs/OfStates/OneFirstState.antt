@@ -11,7 +11,7 @@ use Rattle.click_base.specs.declared.class.Class.TheVariants as class
 use Rattle.click_classes.specs.declared.fault.ArgFault.{ArgFault}
 use Rattle.click_classes.specs.declared.fault.ArgFault.TheVariants as fault
 use Rattle.click_classes.specs.declared.state.State.{State}
-use Rattle.click_classes.specs.Made.{classifier, static_ip_lookup, check_ip_header, infinite_source, FirstStandsFor, IsFresh, IsMade}
+use Rattle.click_classes.specs.Made.{classifier, static_ip_lookup, check_ip_header, infinite_source, arp_responder, FirstStandsFor, IsFresh, IsMade}
 use Rattle.click_classes.specs.Steps.{OrNoMemory}
 use Rattle.click_classes.proofs.OfArguments.OneArgumentList.{one_arguments, one_plain, one_words_each}
 
@@ -35,6 +35,7 @@ pub one_fresh : (c : Class) (args : List (List ℕ)) (r s : Result State ArgFaul
 one_fresh class.Classifier args r s a b = one_by_words _ classifier args r s a b
 one_fresh class.StaticIPLookup args r s a b = one_by_words _ static_ip_lookup args r s a b
 one_fresh class.CheckIPHeader args r s a b = one_by_words _ check_ip_header args r s a b
+one_fresh class.ARPResponder args r s a b = one_by_words _ arp_responder args r s a b
 one_fresh class.InfiniteSource args r s a b = one_by_first _ _ (λ first. infinite_source first args) r s a b
 one_fresh _ args r s a b = a ∙ sym b
 

@@ -3,7 +3,14 @@ use Rattle.std.proofs.Common.{◌≡◌, ℕ, ◌+◌, List, [], ◌∷◌, leng
 use Rattle.std.proofs.lemmas.Bool.{cond_both}
 use Rattle.click_packet.specs.Header.{ttl}
 use Rattle.click_packet.specs.Packet.{Packet}
-use Rattle.click_classes.specs.Acts.{act, pass, gives, stored, emission, is_active, front_dropped, switched, routed, classified, aged, first_of, fresh_packet, up_by, PassEffect, PushEffect, Stored}
+use Rattle.click_classes.specs.Acts.{made_or, counting, sent_to, asked, using, resolved_by, resolved_at, resolved, forwarded, let_go, knowing, learnt_at, learnt_of, learnt, act, pass, gives, stored, emission, is_active, front_dropped, switched, routed, classified, aged, first_of, fresh_packet, up_by, PassEffect, PushEffect, Stored}
+use Rattle.std.specs.Prelude.{◌&&◌, nat_lt, slice_get}
+use Rattle.click_gateway.specs.Addresses.{is_host, ethernet_of_group}
+use Rattle.click_gateway.specs.Arp.{Sender, sender}
+use Rattle.click_classes.specs.Gateway.{arp_reply, error_report, ping_reply}
+use Rattle.click_classes.specs.Neighbours.{Neighbour, place_of}
+use Rattle.click_classes.specs.declared.neighbours.Querier.{Querier}
+use Rattle.click_classes.specs.declared.packet_effects.Verdict.{Verdict}
 use Rattle.click_classes.specs.Routes.{route}
 use Rattle.click_classes.specs.PacketList.{PacketList}
 use Rattle.click_classes.specs.Settings.{settings}
@@ -23,10 +30,17 @@ aged-settings : (p : Packet) (hops : Option ℕ) → settings (aged p hops).stat
 aged-settings p None = refl
 aged-settings p (Some hops) = passes state.DecIPTTL (nat_le hops 1) _ _ refl refl
 
+made-settings : (s : State) (o : Option Packet) (p : Packet) (f : Verdict) → settings (made_or s o p f).state ≡ settings s
+made-settings s None p f = refl
+made-settings s (Some made) p f = refl
+
 pub pass-settings : (s : State) (p : Packet) → settings (pass s p).state ≡ settings s
 unfolding pass
 pass-settings state.DecIPTTL p = aged-settings p (ttl p.bytes)
 pass-settings (state.EtherEncap header) p = passes (state.EtherEncap header) (nat_le (length header + length p.bytes) 1600) _ _ refl refl
+pass-settings (state.ARPResponder stations) p = made-settings (state.ARPResponder stations) (arp_reply stations p) p _
+pass-settings (state.ICMPError r) p = made-settings (state.ICMPError r) (error_report r p) p _
+pass-settings state.ICMPPingResponder p = made-settings state.ICMPPingResponder (ping_reply p) p _
 pass-settings _ p = refl
 
 front_dropped-settings : (ps : List Packet) (q : PacketList) (drops highest : ℕ) (p : Packet)
@@ -42,6 +56,46 @@ routed-settings : (s : State) (o : Option Entry) (p : Packet) → settings (rout
 routed-settings s None p = refl
 routed-settings s (Some e) p = refl
 
+-- whatever a querier does, it keeps its own addresses
+module _ (q : Querier) where
+  abbrev Kept : PushEffect → Type 0
+  Kept r = settings r.state ≡ settings (state.ARPQuerier q)
+
+  sent-settings : (t : Querier) (p : Packet) (to : List ℕ) → settings (state.ARPQuerier t) ≡ settings (state.ARPQuerier q) → Kept (sent_to t p to)
+  sent-settings t p to e = acts (state.ARPQuerier q) (nat_le (14 + length p.bytes) 1600) _ _ e e
+
+  by-settings : (outputs : ℕ) (p : Packet) (place : ℕ) (n : Neighbour) (o : Option (List ℕ)) → Kept (resolved_by outputs q p place n o)
+  by-settings outputs p place n None = refl
+  by-settings outputs p place n (Some to) = sent-settings (using q place n) p to refl
+
+  at-settings : (outputs : ℕ) (p : Packet) (place : ℕ) (o : Option Neighbour) → Kept (resolved_at outputs q p place o)
+  at-settings outputs p place None = refl
+  at-settings outputs p place (Some n) = by-settings outputs p place n n.ether
+
+  resolved-settings : (outputs : ℕ) (p : Packet) (o : Option ℕ) → Kept (resolved outputs q p o)
+  resolved-settings outputs p None = acts (state.ARPQuerier q) (is_host p.destination && nat_lt (length q.table) 256) _ _ refl refl
+  resolved-settings outputs p (Some place) = at-settings outputs p place (slice_get q.table place)
+
+  forwarded-settings : (outputs : ℕ) (p : Packet) (o : Option (List ℕ)) → Kept (forwarded outputs q p o)
+  forwarded-settings outputs p None = resolved-settings outputs p (place_of q.table p.destination)
+  forwarded-settings outputs p (Some group) = sent-settings q p group refl
+
+  gone-settings : (t : Querier) (p : Packet) (to : List ℕ) (o : Option Packet) → settings (state.ARPQuerier t) ≡ settings (state.ARPQuerier q) → Kept (let_go t p to o)
+  gone-settings t p to None e = e
+  gone-settings t p to (Some waited) e = sent-settings t waited to e
+
+  learnt_at-settings : (p : Packet) (who : Sender) (place : ℕ) (o : Option Neighbour) → Kept (learnt_at q p who place o)
+  learnt_at-settings p who place None = refl
+  learnt_at-settings p who place (Some n) = gone-settings (knowing q place n who.ether) p who.ether n.waiting refl
+
+  learnt_of-settings : (p : Packet) (who : Sender) (o : Option ℕ) → Kept (learnt_of q p who o)
+  learnt_of-settings p who None = refl
+  learnt_of-settings p who (Some place) = learnt_at-settings p who place (slice_get q.table place)
+
+  learnt-settings : (p : Packet) (o : Option Sender) → Kept (learnt q p o)
+  learnt-settings p None = refl
+  learnt-settings p (Some who) = learnt_of-settings p who (place_of q.table who.ip)
+
 pub act-settings : (outputs input : ℕ) (s : State) (p : Packet) → settings (act outputs s input p).state ≡ settings s
 unfolding act
 act-settings outputs input (state.Queue q drops highest) p = acts (state.Queue q drops highest) (length q.packets == q.capacity) _ _ refl refl
@@ -53,6 +107,8 @@ act-settings outputs input (state.Tee n) p = refl
 act-settings outputs input (state.Suppressor active) p = acts (state.Suppressor active) (is_active active input) _ _ refl refl
 act-settings outputs input (state.Classifier patterns) p = switched-settings (state.Classifier patterns) (classified patterns p.bytes) p
 act-settings outputs input (state.StaticIPLookup entries) p = routed-settings (state.StaticIPLookup entries) (route entries p.destination) p
+act-settings outputs input (state.ARPQuerier q) p =
+    acts (state.ARPQuerier q) (input == 0) _ _ (forwarded-settings (counting q) outputs p (ethernet_of_group p.destination)) (learnt-settings q p (sender p.bytes))
 act-settings outputs input s p = pass-settings s p
 
 pub gives-settings : (inputs outputs input : ℕ) (s : State) (p : Packet) → settings (gives inputs outputs s input p).state ≡ settings s

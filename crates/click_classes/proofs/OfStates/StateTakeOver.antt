@@ -62,14 +62,16 @@ other_class outputs (state.Queue a d h) (state.Queue b e i) ne = absurd (ne refl
 other_class outputs (state.FrontDropQueue a d h) (state.FrontDropQueue b e i) ne = absurd (ne refl)
 other_class outputs (state.Counter n b) (state.Counter m c) ne = absurd (ne refl)
 other_class outputs (state.Switch own) (state.Switch k) ne = absurd (ne refl)
+other_class outputs (state.ARPQuerier a) (state.ARPQuerier b) ne = absurd (ne refl)
 other_class outputs _ _ ne = refl
 
-pub anew : (outputs : ℕ) (s old : State) → (class s ≡ kind.Queue → ⊥) → (class s ≡ kind.FrontDropQueue → ⊥) → (class s ≡ kind.Counter → ⊥) → (class s ≡ kind.Switch → ⊥) → taken_over outputs s old ≡ s
-anew outputs (state.Queue a d h) (state.Queue b e i) x y z w = absurd (x refl)
-anew outputs (state.FrontDropQueue a d h) (state.FrontDropQueue b e i) x y z w = absurd (y refl)
-anew outputs (state.Counter n b) (state.Counter m c) x y z w = absurd (z refl)
-anew outputs (state.Switch own) (state.Switch k) x y z w = absurd (w refl)
-anew outputs _ _ x y z w = refl
+pub anew : (outputs : ℕ) (s old : State) → (class s ≡ kind.Queue → ⊥) → (class s ≡ kind.FrontDropQueue → ⊥) → (class s ≡ kind.Counter → ⊥) → (class s ≡ kind.Switch → ⊥) → (class s ≡ kind.ARPQuerier → ⊥) → taken_over outputs s old ≡ s
+anew outputs (state.Queue a d h) (state.Queue b e i) x y z w v = absurd (x refl)
+anew outputs (state.FrontDropQueue a d h) (state.FrontDropQueue b e i) x y z w v = absurd (y refl)
+anew outputs (state.Counter n b) (state.Counter m c) x y z w v = absurd (z refl)
+anew outputs (state.Switch own) (state.Switch k) x y z w v = absurd (w refl)
+anew outputs (state.ARPQuerier a) (state.ARPQuerier b) x y z w v = absurd (v refl)
+anew outputs _ _ x y z w v = refl
 
 -- what a hot swap keeps
 
@@ -78,6 +80,7 @@ keeps_class outputs (state.Queue a d h) (state.Queue b e i) = refl
 keeps_class outputs (state.FrontDropQueue a d h) (state.FrontDropQueue b e i) = refl
 keeps_class outputs (state.Counter n b) (state.Counter m c) = refl
 keeps_class outputs (state.Switch own) (state.Switch k) = refl
+keeps_class outputs (state.ARPQuerier a) (state.ARPQuerier b) = refl
 keeps_class outputs _ _ = refl
 
 pub keeps_settings : (outputs : ℕ) (s old : State) → (class s ≡ kind.Switch → ⊥) → settings (taken_over outputs s old) ≡ settings s
@@ -85,6 +88,7 @@ keeps_settings outputs (state.Queue a d h) (state.Queue b e i) ne = refl
 keeps_settings outputs (state.FrontDropQueue a d h) (state.FrontDropQueue b e i) ne = refl
 keeps_settings outputs (state.Counter n b) (state.Counter m c) ne = refl
 keeps_settings outputs (state.Switch own) (state.Switch k) ne = absurd (ne refl)
+keeps_settings outputs (state.ARPQuerier a) (state.ARPQuerier b) ne = refl
 keeps_settings outputs _ _ ne = refl
 
 pub keeps_ports : (inputs outputs : ℕ) (s old : State) → FitsPorts inputs outputs s → FitsPorts inputs outputs (taken_over outputs s old)
@@ -96,6 +100,8 @@ keeps_ports inputs outputs (state.Counter n b) (state.Counter m c) fits =
     record { inputs_from = fits.inputs_from; inputs_to = fits.inputs_to; outputs_from = fits.outputs_from; outputs_to = fits.outputs_to; equal = fits.equal; turn = tt }
 keeps_ports inputs outputs (state.Switch own) (state.Switch k) fits =
     record { inputs_from = fits.inputs_from; inputs_to = fits.inputs_to; outputs_from = position-fits outputs own k fits.outputs_from; outputs_to = fits.outputs_to; equal = fits.equal; turn = tt }
+keeps_ports inputs outputs (state.ARPQuerier a) (state.ARPQuerier b) fits =
+    record { inputs_from = fits.inputs_from; inputs_to = fits.inputs_to; outputs_from = fits.outputs_from; outputs_to = fits.outputs_to; equal = fits.equal; turn = tt }
 keeps_ports inputs outputs _ _ fits = fits
 
 within : (q old : PacketList) → length (filled q old).packets ≤ q.capacity
@@ -106,6 +112,7 @@ stays_sound outputs (state.Queue a d h) (state.Queue b e i) sound = (within a b,
 stays_sound outputs (state.FrontDropQueue a d h) (state.FrontDropQueue b e i) sound = (within a b, omega arith)
 stays_sound outputs (state.Counter n b) (state.Counter m c) sound = tt
 stays_sound outputs (state.Switch own) (state.Switch k) sound = tt
+stays_sound outputs (state.ARPQuerier a) (state.ARPQuerier b) sound = tt
 stays_sound outputs _ _ sound = sound
 
 -- After taking over, a Counter is in the state of the old one, and so is a Switch if the old one

@@ -3,7 +3,7 @@
 ghost use Rattle.std.specs.Prelude.{◌≡◌, ◌==◌, ◌<◌, length, position, Some, None, IfSome, MatchBool};
 ghost use Rattle.click_classes.specs.Values.{group, separated};
 
-use crate::values::number::{decimal_in, hexadecimal_in};
+use click_base::{decimal_in, hexadecimal_in};
 
 /// The kind of a group.
 #[derive(Clone, Copy)]

@@ -1,117 +1,11 @@
 //! Numbers: decimal digits, or `0x` and hexadecimal digits (Click element reference, "unsigned
 //! integer").
 
-ghost use Rattle.std.specs.Prelude.{◌≡◌, ◌<◌, ◌≤◌, ◌+◌, ◌*◌, IfOk, IfSome};
-ghost use Rattle.std.specs.List.{list_all};
-ghost use Rattle.click_text.specs.Pieces.{digit};
-ghost use Rattle.click_classes.specs.Values.{hex_digit, digit_value, is_run, spelled, at_most, decimal_in, hexadecimal_in, number_in, decimal_number, number_or_minus_one};
+ghost use Rattle.std.specs.Prelude.{◌≡◌, ◌≤◌, IfOk, IfSome};
+ghost use Rattle.click_classes.specs.Values.{number_in, number_or_minus_one};
 
 use crate::fault::ArgFault;
-
-/// Returns whether the byte is a decimal digit.
-fn is_digit(byte: u8) -> bool
-    ensures { result ≡ digit byte }
-{
-    byte.is_ascii_digit()
-}
-
-/// Returns whether the byte is a hexadecimal digit.
-pub fn is_hex_digit(byte: u8) -> bool
-    ensures { result ≡ hex_digit byte }
-{
-    byte.is_ascii_hexdigit()
-}
-
-/// Returns the value of a hexadecimal digit.
-pub fn digit_value(byte: u8) -> u8
-    ensures value { result ≡ digit_value byte }
-    ensures small { result < 16 }
-{
-    match byte {
-        b'0'..=b'9' => byte - b'0',
-        b'A'..=b'F' => byte - b'A' + 10,
-        b'a'..=b'f' => byte - b'a' + 10,
-        _ => 0,
-    }
-}
-
-/// Returns whether all bytes are decimal digits.
-fn all_digits(bytes: &[u8]) -> bool
-    ensures { result ≡ list_all digit bytes.now }
-{
-    bytes.iter().all(|byte| is_digit(*byte))
-}
-
-/// Returns whether all bytes are hexadecimal digits.
-pub fn all_hex_digits(bytes: &[u8]) -> bool
-    ensures { result ≡ list_all hex_digit bytes.now }
-{
-    bytes.iter().all(|byte| is_hex_digit(*byte))
-}
-
-/// Returns whether the bytes are one or more decimal digits.
-fn are_decimal(bytes: &[u8]) -> bool
-    ensures { result ≡ is_run digit bytes.now }
-{
-    !bytes.is_empty() && all_digits(bytes)
-}
-
-/// Returns whether the bytes are one or more hexadecimal digits.
-fn are_hexadecimal(bytes: &[u8]) -> bool
-    ensures { result ≡ is_run hex_digit bytes.now }
-{
-    !bytes.is_empty() && all_hex_digits(bytes)
-}
-
-/// Returns the number with one more digit, if that is at most `high`.
-fn with_digit(number: u64, base: u64, digit: u64, high: u64) -> Option<u64>
-    ensures { result ≡ at_most high (base * number + digit) }
-{
-    let more = base.checked_mul(number)?.checked_add(digit)?;
-    (more <= high).then_some(more)
-}
-
-/// Returns the number that any number of digits spell, if it is at most `high`.
-fn spelled(digits: &[u8], base: u64, high: u64) -> Option<u64>
-    requires { 0 < base }
-    ensures { result ≡ at_most high (spelled base 0 digits.now) }
-{
-    let mut number: u64 = 0;
-    for digit in digits {
-        // More digits cannot make the number smaller.
-        let Some(more) = with_digit(number, base, u64::from(digit_value(*digit)), high) else {
-            return None;
-        };
-        number = more;
-    }
-    Some(number)
-}
-
-/// Returns the number that decimal digits spell, if it is at most `high`.
-#[tactic(auto, unfolding(crate::specs::Values::decimal_in))]
-pub fn decimal_in(bytes: &[u8], high: u64) -> Option<u64>
-    ensures value { result ≡ decimal_in high bytes.now }
-    ensures bound { IfSome result (λ n. n ≤ high) }
-{
-    if are_decimal(bytes) {
-        spelled(bytes, 10, high)
-    } else {
-        None
-    }
-}
-
-/// Returns the number that hexadecimal digits spell, if it is at most `high`.
-#[tactic(auto, unfolding(crate::specs::Values::hexadecimal_in))]
-pub fn hexadecimal_in(bytes: &[u8], high: u64) -> Option<u64>
-    ensures value { result ≡ hexadecimal_in high bytes.now }
-    ensures bound { IfSome result (λ n. n ≤ high) }
-{
-    if are_hexadecimal(bytes) {
-        spelled(bytes, 16, high)
-    } else {
-        None
-    }
-}
+use click_base::{are_decimal, are_hexadecimal, spelled};
 
 /// Returns the number that the bytes spell, if it is from `low` to `high`.
 ///
@@ -133,21 +27,6 @@ pub fn number_in(bytes: &[u8], low: u64, high: u64) -> Result<u64, ArgFault>
         return Err(ArgFault::BadNumber);
     };
     match number {
-        Some(number) if low <= number => Ok(number),
-        _ => Err(ArgFault::OutOfRange),
-    }
-}
-
-/// Does what `number_in` does, for decimal digits only.
-#[tactic(auto, unfolding(crate::specs::Values::decimal_number))]
-pub fn decimal_number(bytes: &[u8], low: u64, high: u64) -> Result<u64, ArgFault>
-    ensures value { result ≡ decimal_number low high bytes.now }
-    ensures bound { IfOk result (λ n. n ≤ high) }
-{
-    if !are_decimal(bytes) {
-        return Err(ArgFault::BadNumber);
-    }
-    match spelled(bytes, 10, high) {
         Some(number) if low <= number => Ok(number),
         _ => Err(ArgFault::OutOfRange),
     }

@@ -8,8 +8,8 @@ ghost use Rattle.click_classes.specs.kept.Answers.{IsOrNoMemory};
 
 use crate::fault::ArgFault;
 use crate::values::groups::place;
-use crate::values::number::{all_hex_digits, decimal_in, digit_value, is_hex_digit};
 use click_base::sequence::Sequence;
+use click_base::{all_hex_digits, decimal_in, digit_value, is_hex_digit};
 use std::alloc::Global;
 
 /// A clause: a condition on the bytes of a packet.

@@ -6,7 +6,7 @@ ghost use Rattle.click_classes.specs.Values.{first_bits, cleared, prefix};
 use crate::fault::ArgFault;
 use crate::values::address::address;
 use crate::values::groups::place;
-use crate::values::number::decimal_in;
+use click_base::decimal_in;
 
 /// A prefix: the addresses whose first `len` bits are those of `network`.
 #[derive(Clone, Copy, Debug, PartialEq, Eq, PartialOrd, Ord)]

@@ -1,7 +1,7 @@
 -- How a session takes up its bytes line by line.
 use Rattle.std.specs.Prelude.{◌≡◌, ℕ, ◌+◌, ◌≤◌, ◌<◌, List, [], ◌∷◌, ◌++◌, length, take, drop, true, nat_eq, slice_index, ◌&&◌, Option, Some, None, if◌then◌else◌}
-use Rattle.click_classes.specs.declared.fault.ArgFault.{ArgFault}
-use Rattle.click_classes.specs.declared.fault.ArgFault.TheVariants as fault
+use Rattle.click_base.specs.declared.numbers.NumberFault.{NumberFault}
+use Rattle.click_base.specs.declared.numbers.NumberFault.TheVariants as fault
 use Rattle.click_control.specs.declared.command.Command.{Command}
 use Rattle.click_control.specs.declared.command.Command.TheVariants as command
 use Rattle.click_control.specs.declared.start.Start.{Start}
@@ -25,14 +25,9 @@ says (parsed.Whole c) = whole c
 says (parsed.Announces w handler n) = announces w handler n
 
 -- the command of a line whose payload length is not a number or is too great
-abbrev pub bad_count : ArgFault → Command
-bad_count fault.NoMemory = command.Syntax
-bad_count fault.ArgumentCount = command.Syntax
+abbrev pub bad_count : NumberFault → Command
 bad_count fault.BadNumber = command.Syntax
-bad_count fault.BadText = command.Syntax
 bad_count fault.OutOfRange = command.DataTooLong
-bad_count fault.BadAddress = command.Syntax
-bad_count fault.BadEntry = command.Syntax
 
 -- the length of the line end with which these bytes begin
 abbrev pub end_length : List ℕ → ℕ

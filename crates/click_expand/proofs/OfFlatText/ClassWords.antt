@@ -8,7 +8,8 @@ use Rattle.std.proofs.lemmas.Slice.Eq.{bytes_eq-Decides}
 use Rattle.click_base.specs.Classes.{name}
 use Rattle.click_base.specs.declared.class.Class.{Class}
 use Rattle.click_base.specs.declared.class.Class.TheVariants as class
-use Rattle.click_text.specs.Pieces.{is_word, digit}
+use Rattle.click_base.specs.Numbers.{digit}
+use Rattle.click_text.specs.Pieces.{is_word}
 use Rattle.click_expand.proofs.OfFlatText.NameWords.{IsName}
 
 abbrev IsWordTest : List ℕ → Bool

@@ -1,5 +1,5 @@
 -- The flat form of a configuration that consists of the lines of a flat form (`Lines`).
-use Rattle.std.proofs.Common.{◌≡◌, ℕ, zero, suc, ◌+◌, ◌<◌, ◌≤◌, List, [], ◌∷◌, ◌++◌, length, map, true, Some, refl, sym, ◌∙◌, ap, arith}
+use Rattle.std.proofs.Common.{◌≡◌, false, ℕ, zero, suc, ◌+◌, ◌<◌, ◌≤◌, List, [], ◌∷◌, ◌++◌, length, map, true, Some, refl, sym, ◌∙◌, ap, arith}
 use Rattle.std.specs.Prelude.{Contains, slice_get, sum_by}
 use Rattle.std.specs.List.{AllByRecursion}
 use Rattle.std.proofs.lemmas.List.Folds.{fold-map}
@@ -240,7 +240,7 @@ pub record IsItself (f : Flat) : Type 0 where
   pub few_connections : length f.connections ≤ most_connections
   pub short : element_sizes f.elements ≤ most_text
 
-pub one_flat : (text : List ℕ) (f : Flat) (ss : List Statement) → IsItself f → AreLines text f.elements f.elements f.connections ss → IsFlat (config_of text ss) f
+pub one_flat : (text : List ℕ) (f : Flat) (ss : List Statement) → IsItself f → AreLines text f.elements false f.elements f.connections ss → IsFlat (config_of text ss) f
 one_flat text f ss i l =
     let c = config_of text ss in
     let h = says text f.elements f.connections ss l in

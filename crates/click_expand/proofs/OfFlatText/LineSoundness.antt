@@ -1,5 +1,5 @@
 -- A configuration that consists of the lines of a flat form (`Lines`) has no misuse.
-use Rattle.std.proofs.Common.{◌≡◌, inl, inr, ℕ, ◌+◌, ◌<◌, List, [], ◌∷◌, ◌++◌, length, map, true, false, Some, None, refl, sym, ap, subst, arith}
+use Rattle.std.proofs.Common.{◌≡◌, inl, inr, ℕ, ◌+◌, ◌<◌, List, [], ◌∷◌, ◌++◌, length, map, Bool, true, false, Some, None, refl, sym, ap, subst, arith}
 use Rattle.std.specs.Prelude.{Contains}
 use Rattle.std.specs.List.{AllByRecursion}
 use Rattle.std.specs.Str.{bytes_eq}
@@ -25,8 +25,8 @@ use Rattle.click_base.specs.NameLists.{has_name}
 use Rattle.click_scopes.specs.Faults.{End, WrittenConnection, ScopeNames, scope_names, written_end, end_by, written_connections_behind, written_connections_from, declared_meaning, scope_placed, scope_declared, scope_connections, is_pseudo, IsWrong, unknown_name, unknown_class, unknown_declared, unknown_original, named_twice, port_declared, formal_twice, wrong_parameters, no_output, no_input, output_as_source, input_as_target, input_gap, output_gap}
 use Rattle.click_expand.specs.Flat.{AreDistinct}
 use Rattle.click_expand.specs.FlatText.{name_at_place}
-use Rattle.click_expand.proofs.OfFlatText.Lines.{element_statement, connection_statement, AreLines, no_lines, first_connection, first_element}
-use Rattle.click_expand.proofs.OfFlatText.LineScope.{names, IsPlain, plain_none, plain_more, declared_are, word_refers, class_known}
+use Rattle.click_expand.proofs.OfFlatText.Lines.{element_statement, connection_statement, AreLines, no_lines, required, first_connection, first_element}
+use Rattle.click_expand.proofs.OfFlatText.LineScope.{names, IsPlain, plain_none, plain_more, plain_required, declared_are, word_refers, class_known}
 
 -- the configuration with these statements
 abbrev pub config_of : List ℕ → List Statement → Config
@@ -42,10 +42,11 @@ pub record IsLine (st : Statement) : Type 0 where
   pub bodies : bodies_in st ≡ []
   pub no_synonym : (n c : Span) → st ≡ statement.Synonym n c → ⊥
 
-pub lines_are : {text : List ℕ} {all es : List FlatElement} {ks : List Connection} {ss : List Statement} → AreLines text all es ks ss → AllByRecursion IsLine ss
+pub lines_are : {text : List ℕ} {all : List FlatElement} {g : Bool} {es : List FlatElement} {ks : List Connection} {ss : List Statement} → AreLines text all g es ks ss → AllByRecursion IsLine ss
 lines_are no_lines = tt
+lines_are (required es ks t ss r l) = (record { bodies = refl; no_synonym = λ n c e. cc }, lines_are l)
 lines_are (first_connection k ks s t p q ss j l) = (record { bodies = refl; no_synonym = λ n c e. cc }, lines_are l)
-lines_are (first_element e es ks s w o ss d l) = (record { bodies = refl; no_synonym = λ n c e. cc }, lines_are l)
+lines_are (first_element e es ks s w o ss d i l) = (record { bodies = refl; no_synonym = λ n c e. cc }, lines_are l)
 
 pub only_whole : {c : Config} {s : Scope} {visible : List Statement} {enclosing : List Scope} → AllByRecursion IsLine c.statements → Stands c s visible enclosing →
     (s ≡ whole) × (visible ≡ []) × (enclosing ≡ [])
@@ -62,19 +63,20 @@ pub data IsMade (text : List ℕ) (declared : List (List ℕ)) (p : Placed) : Ty
   made : (s w : Span) (v : Class) → p.element.head ≡ head.Declared s (class.Named w) → element_meaning text p ≡ Some (primitive v) → IsMade text declared p
   named : (s : Span) → p.element.head ≡ head.Word s → p.element.text ≡ None → role text false declared p.element ≡ refers → IsMade text declared p
 
-pub placed_are : {text : List ℕ} {all es : List FlatElement} {ks : List Connection} {ss : List Statement} (visible : List Statement) → IsPlain text visible →
-    AreLines text all es ks ss → AllByRecursion (IsMade text (names all)) (placed visible ss)
+pub placed_are : {text : List ℕ} {all : List FlatElement} {g : Bool} {es : List FlatElement} {ks : List Connection} {ss : List Statement} (visible : List Statement) → IsPlain text g visible →
+    AreLines text all g es ks ss → AllByRecursion (IsMade text (names all)) (placed visible ss)
 placed_are visible v no_lines = tt
-placed_are {text} {all} visible v (first_connection k ks s t p q ss j l) = (
+placed_are {text} visible v (required es ks t ss r l) = placed_are (statement.Requirement (Some t) ∷ visible) (plain_required text visible t r v) l
+placed_are {text} {all} {g} visible v (first_connection k ks s t p q ss j l) = (
   named s refl refl (word_refers text all s k.from j.from_there j.from),
   (
     named t refl refl (word_refers text all t k.to j.to_there j.to),
-    placed_are (connection_statement s t p q ∷ visible) (plain_more text visible _ v) l,
+    placed_are (connection_statement s t p q ∷ visible) (plain_more text g visible _ v) l,
   ),
 )
-placed_are {text} {all} visible v (first_element e es ks s w o ss d l) = (
-  made s w e.class refl (class_known text visible e w v d.class),
-  placed_are (element_statement s w o ∷ visible) (plain_more text visible _ v) l,
+placed_are {text} {all} {g} visible v (first_element e es ks s w o ss d i l) = (
+  made s w e.class refl (class_known text g visible e w v i d.class),
+  placed_are (element_statement s w o ∷ visible) (plain_more text g visible _ v) l,
 )
 
 -- the names of these elements
@@ -102,15 +104,16 @@ once (x ∷ xs) ys y d h = elim (or_cases (bytes_eq y x) (has_name y xs) h) [
 ]
 
 -- no end of a connection belongs to a compound
-pub no_compound : {text : List ℕ} {all es : List FlatElement} {ks : List Connection} {ss : List Statement} (visible : List Statement) (name : List ℕ) (b : ℕ) → IsPlain text visible →
-    AreLines text all es ks ss → declared_meaning text (placed visible ss) name ≡ Some (compound b) → ⊥
+pub no_compound : {text : List ℕ} {all : List FlatElement} {g : Bool} {es : List FlatElement} {ks : List Connection} {ss : List Statement} (visible : List Statement) (name : List ℕ) (b : ℕ) → IsPlain text g visible →
+    AreLines text all g es ks ss → declared_meaning text (placed visible ss) name ≡ Some (compound b) → ⊥
 no_compound visible name b v no_lines h = cc
-no_compound {text} visible name b v (first_connection k ks s t p q ss j l) h =
-    no_compound (connection_statement s t p q ∷ visible) name b (plain_more text visible _ v) l h
-no_compound {text} visible name b v (first_element e es ks s w o ss d l) h = elim (cases_Bool (bytes_eq (bytes_at text s) name)) [
-  | inl x ↦ let g : meaning text visible (bytes_at text w) ≡ Some (compound b) = rw x at h in let m = class_known text visible e w v d.class in cc
-  | inr x ↦ let g : declared_meaning text (placed (element_statement s w o ∷ visible) ss) name ≡ Some (compound b) = rw x at h in
-      no_compound (element_statement s w o ∷ visible) name b (plain_more text visible _ v) l g
+no_compound {text} visible name b v (required es ks t ss r l) h = no_compound (statement.Requirement (Some t) ∷ visible) name b (plain_required text visible t r v) l h
+no_compound {text} {all} {g} visible name b v (first_connection k ks s t p q ss j l) h =
+    no_compound (connection_statement s t p q ∷ visible) name b (plain_more text g visible _ v) l h
+no_compound {text} {all} {g} visible name b v (first_element e es ks s w o ss d i l) h = elim (cases_Bool (bytes_eq (bytes_at text s) name)) [
+  | inl x ↦ let f : meaning text visible (bytes_at text w) ≡ Some (compound b) = rw x at h in let m = class_known text g visible e w v i d.class in cc
+  | inr x ↦ let f : declared_meaning text (placed (element_statement s w o ∷ visible) ss) name ≡ Some (compound b) = rw x at h in
+      no_compound (element_statement s w o ∷ visible) name b (plain_more text g visible _ v) l f
 ]
 
 pub record IsEndOf (e : End) (n : List ℕ) : Type 0 where
@@ -144,16 +147,17 @@ end_is c all written n visible s i h e none =
     let P : Role → Type 0 = λ r. IsEndOf (end_by c N n p r) (name_at_place all i) in
     subst P (sym (word_refers c.text all s i h e)) (record { name = e; role = refl; meaning = λ b g. none (bytes_at c.text s) b g })
 
-pub written_connections_are : (c : Config) {all es : List FlatElement} {ks : List Connection} {ss : List Statement} (written : List Placed) (visible : List Statement) (n : ℕ) → NoCompound c.text written →
-    AreLines c.text all es ks ss → AreWrittenConnections all ks (written_connections_from c (names_with all written) visible n ss)
+pub written_connections_are : (c : Config) {all : List FlatElement} {g : Bool} {es : List FlatElement} {ks : List Connection} {ss : List Statement} (written : List Placed) (visible : List Statement) (n : ℕ) → NoCompound c.text written →
+    AreLines c.text all g es ks ss → AreWrittenConnections all ks (written_connections_from c (names_with all written) visible n ss)
 unfolding written_connections_from written_connections_behind
 written_connections_are c written visible n none no_lines = no_written_connections
-written_connections_are c {all} written visible n none (first_connection k ks s t p q ss j l) =
+written_connections_are c written visible n none (required es ks t ss r l) = written_connections_are c written (statement.Requirement (Some t) ∷ visible) _ none l
+written_connections_are c {all} {g} written visible n none (first_connection k ks s t p q ss j l) =
     let a = end_is c all written n visible s k.from j.from_there j.from none in
     first_written_connection k ks _ _
     (record { from_there = j.from_there; to_there = j.to_there; from = a; to = end_is c all written _ visible t k.to j.to_there j.to none; out_port = j.out_port; in_port = j.in_port })
     (written_connections_are c written (connection_statement s t p q ∷ visible) _ none l)
-written_connections_are c written visible n none (first_element e es ks s w o ss d l) = written_connections_are c written (element_statement s w o ∷ visible) _ none l
+written_connections_are c written visible n none (first_element e es ks s w o ss d i l) = written_connections_are c written (element_statement s w o ∷ visible) _ none l
 
 written_connections_ends : {all : List FlatElement} {ks : List Connection} {js : List WrittenConnection} → AreWrittenConnections all ks js → AllByRecursion (λ (j : WrittenConnection). (k : Connection) × IsWrittenConnectionOf all k j) js
 written_connections_ends no_written_connections = tt
@@ -166,7 +170,7 @@ pub record Says (c : Config) (all : List FlatElement) (ks : List Connection) : T
   pub declared : scope_declared c whole [] ≡ names all
   pub written_connections : AreWrittenConnections all ks (scope_connections c whole [])
 
-pub says : (text : List ℕ) (all : List FlatElement) (ks : List Connection) (ss : List Statement) → AreLines text all all ks ss → Says (config_of text ss) all ks
+pub says : (text : List ℕ) (all : List FlatElement) (ks : List Connection) (ss : List Statement) → AreLines text all false all ks ss → Says (config_of text ss) all ks
 says text all ks ss l =
     let e : declared_names text (placed [] ss) ≡ names all = declared_are [] l in
     let d = config_of text ss in

@@ -1,6 +1,8 @@
 -- The lines of a flat form's text, as statements.
-use Rattle.std.proofs.Common.{◌≡◌, ℕ, ◌<◌, List, [], ◌∷◌, length, Option, None}
-use Rattle.click_base.specs.Classes.{name as class_name}
+use Rattle.std.proofs.Common.{◌≡◌, ℕ, ◌<◌, List, [], ◌∷◌, length, Bool, true, false, Option, None, Some}
+use Rattle.click_base.specs.Classes.{name as class_name, is_gateway}
+use Rattle.click_text.specs.declared.syntax.Statement.TheVariants as statement
+use Rattle.click_scopes.specs.Classes.{requires_gateway}
 use Rattle.click_text.specs.declared.syntax.Span.{Span}
 use Rattle.click_text.specs.declared.syntax.WrittenPort.{WrittenPort}
 use Rattle.click_text.specs.declared.syntax.ClassReference.TheVariants as class
@@ -35,10 +37,14 @@ pub record IsJoined (text : List ℕ) (all : List FlatElement) (k : Connection) 
   pub out_port : port_number p ≡ k.out_port
   pub in_port : port_number q ≡ k.in_port
 
--- the statements of the lines for these elements and connections, whose ends are among all elements
-pub data AreLines (text : List ℕ) (all : List FlatElement) : List FlatElement → List Connection → List Statement → Type 0 where
-  no_lines : AreLines text all [] [] []
-  first_connection : (k : Connection) (ks : List Connection) (s t : Span) (p q : Option WrittenPort) (ss : List Statement) → IsJoined text all k s t p q →
-      AreLines text all [] ks ss → AreLines text all [] (k ∷ ks) (connection_statement s t p q ∷ ss)
-  first_element : (e : FlatElement) (es : List FlatElement) (ks : List Connection) (s w : Span) (o : Option Span) (ss : List Statement) → IsDeclared text e s w o →
-      AreLines text all es ks ss → AreLines text all (e ∷ es) ks (element_statement s w o ∷ ss)
+-- The statements of the lines for these elements and connections, whose ends are among all
+-- elements. The truth value says whether the classes of the gateway package are visible before
+-- these lines. A line that requires the package makes them visible.
+pub data AreLines (text : List ℕ) (all : List FlatElement) : Bool → List FlatElement → List Connection → List Statement → Type 0 where
+  no_lines : {g : Bool} → AreLines text all g [] [] []
+  required : (es : List FlatElement) (ks : List Connection) (t : Span) (ss : List Statement) → requires_gateway text (Some t) ≡ true →
+      AreLines text all true es ks ss → AreLines text all false es ks (statement.Requirement (Some t) ∷ ss)
+  first_connection : {g : Bool} (k : Connection) (ks : List Connection) (s t : Span) (p q : Option WrittenPort) (ss : List Statement) → IsJoined text all k s t p q →
+      AreLines text all g [] ks ss → AreLines text all g [] (k ∷ ks) (connection_statement s t p q ∷ ss)
+  first_element : {g : Bool} (e : FlatElement) (es : List FlatElement) (ks : List Connection) (s w : Span) (o : Option Span) (ss : List Statement) → IsDeclared text e s w o → (is_gateway e.class ≡ true → g ≡ true) →
+      AreLines text all g es ks ss → AreLines text all g (e ∷ es) ks (element_statement s w o ∷ ss)

@@ -7,7 +7,8 @@ use Rattle.std.proofs.lemmas.Bool.{false≢true, and_parts, and_from, and_right,
 use Rattle.std.proofs.lemmas.Bool.Decides.{nat_tests}
 use Rattle.std.proofs.lemmas.List.Folds.{list_all-append, list_any-append}
 use Rattle.click_text.specs.declared.lexer.Piece.TheVariants as piece
-use Rattle.click_text.specs.Pieces.{digit, is_word, IsPiece}
+use Rattle.click_base.specs.Numbers.{digit}
+use Rattle.click_text.specs.Pieces.{is_word, IsPiece}
 use Rattle.click_text.proofs.OfPieces.FirstBytes.{word_form}
 use Rattle.click_text.proofs.OfPieces.WordForms.{word_on}
 use Rattle.click_scopes.specs.Elements.{name_with_number}

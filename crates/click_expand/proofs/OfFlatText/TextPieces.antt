@@ -14,7 +14,8 @@ use Rattle.click_text.specs.declared.lexer.Piece.TheVariants as piece
 use Rattle.click_text.specs.declared.strings.Mode.TheVariants as mode
 use Rattle.click_text.specs.Strings.{closes}
 use Rattle.click_text.specs.Spans.{bytes_at}
-use Rattle.click_text.specs.Pieces.{white, digit, word_byte, is_word, IsPiece, Longest, span, decimal_after, port_spelled, Reads, passes, takes}
+use Rattle.click_base.specs.Numbers.{digit}
+use Rattle.click_text.specs.Pieces.{white, word_byte, is_word, IsPiece, Longest, span, decimal_after, port_spelled, Reads, passes, takes}
 use Rattle.click_text.proofs.OfPieces.FirstBytes.{family, word_first, word_form}
 use Rattle.click_text.proofs.OfPieces.WordForms.{word_most}
 use Rattle.click_text.proofs.OfPieces.LongestPiece.{longest_blank, longest_mark, longest_colons, longest_arrow, longest_word, longest_string}
@@ -62,6 +63,11 @@ pub read_word : (at : ℕ) (p r : List ℕ) (ts : List Token) → IsPiece piece.
     Reads at (p ++ r) (token.Word (span at (at + length p)) ∷ ts) ending.Whole
 read_word at p r ts h s m =
     takes at (p ++ r) ts ending.Whole piece.Word (length p) (token.Word (span at (at + length p))) (longest_front piece.Word p r refl h s) refl (rw (rest_of p r) m)
+
+pub read_require : (at : ℕ) (p r : List ℕ) (ts : List Token) → IsPiece piece.Require p → Stops r → Reads (at + length p) r ts ending.Whole →
+    Reads at (p ++ r) (token.Require (span at (at + length p)) ∷ ts) ending.Whole
+read_require at p r ts h s m =
+    takes at (p ++ r) ts ending.Whole piece.Require (length p) (token.Require (span at (at + length p))) (longest_front piece.Require p r refl h s) refl (rw (rest_of p r) m)
 
 pub read_number : (at : ℕ) (p r : List ℕ) (ts : List Token) (n : ℕ) → IsPiece piece.Number p → port_spelled p ≡ Some n → Stops r → Reads (at + length p) r ts ending.Whole →
     Reads at (p ++ r) (token.Number (Some n) (span at (at + length p)) ∷ ts) ending.Whole

@@ -1,30 +1,31 @@
 -- The text of a flat form as tokens, and as statements of the grammar.
-use Rattle.std.proofs.Common.{◌≡◌, inl, inr, ℕ, zero, suc, ◌+◌, ◌-◌, ◌<◌, List, [], ◌∷◌, ◌++◌, length, drop, true, Option, Some, None, refl, sym, ◌∙◌, ap, subst, arith, append_assoc, length-append}
-use Rattle.std.specs.Prelude.{decimal, flat_map}
+use Rattle.std.proofs.Common.{◌≡◌, inl, inr, ℕ, zero, suc, ◌+◌, ◌-◌, ◌<◌, List, [], ◌∷◌, ◌++◌, length, drop, Bool, true, false, Option, Some, None, refl, sym, ◌∙◌, ap, subst, arith, append_assoc, length-append}
+use Rattle.std.specs.Prelude.{codes, decimal, flat_map}
 use Rattle.std.specs.List.{AllByRecursion}
-use Rattle.std.proofs.lemmas.Bool.{cases_eq, eq-eqb, ne_eqb}
+use Rattle.std.proofs.lemmas.Bool.{cases_eq, eq-eqb, ne_eqb, or_parts}
 use Rattle.std.proofs.lemmas.List.{take_at}
-use Rattle.click_base.specs.Classes.{name as class_name}
+use Rattle.click_base.specs.Classes.{name as class_name, is_gateway}
 use Rattle.click_text.specs.declared.syntax.Span.{Span}
 use Rattle.click_text.specs.declared.syntax.WrittenPort.{WrittenPort}
 use Rattle.click_text.specs.declared.syntax.Token.{Token}
 use Rattle.click_text.specs.declared.syntax.Token.TheVariants as token
 use Rattle.click_text.specs.declared.syntax.Ending.TheVariants as ending
 use Rattle.click_text.specs.declared.syntax.Statement.{Statement}
+use Rattle.click_text.specs.declared.syntax.Statement.TheVariants as statement
 use Rattle.click_text.specs.declared.lexer.Piece.TheVariants as piece
 use Rattle.click_text.specs.Spans.{bytes_at, without_ends}
 use Rattle.click_text.specs.Pieces.{IsPiece, span, Reads, ends}
-use Rattle.click_text.specs.Grammar.{written_port, IsPort, no_port, bracketed, IsString, no_string, string, semicolon, by_name, declared, word, an_element, no_links, more_links, chained, IsStatements, no_more, stated, NestsWithin}
+use Rattle.click_text.specs.Grammar.{written_port, IsPort, no_port, bracketed, IsString, no_string, string, semicolon, by_name, declared, word, an_element, no_links, more_links, chained, IsStatements, no_more, stated, empty, requirement as requirement_stated, NestsWithin}
 use Rattle.click_expand.specs.declared.flat.FlatElement.{FlatElement}
 use Rattle.click_expand.specs.declared.flat.Connection.{Connection}
 use Rattle.click_expand.specs.declared.flat.Flat.{Flat}
 use Rattle.click_scopes.specs.Elements.{string_or_empty}
 use Rattle.click_scopes.specs.Faults.{port_number}
 use Rattle.click_expand.specs.Flat.{is_whole}
-use Rattle.click_expand.specs.FlatText.{string_of, element_line, connection_line, out_port, in_port, name_at_place, flat_text_of}
+use Rattle.click_expand.specs.FlatText.{uses_gateway, string_of, element_line, connection_line, out_port, in_port, name_at_place, flat_text_of}
 use Rattle.click_expand.proofs.OfFlatText.ClassWords.{class_word}
-use Rattle.click_expand.proofs.OfFlatText.Lines.{element_statement, connection_statement, IsDeclared, IsJoined, AreLines, no_lines, first_connection, first_element}
-use Rattle.click_expand.proofs.OfFlatText.TextPieces.{Stops, read_word, read_number, read_string, read_blank, read_semicolon, read_open, read_close, read_colons, read_arrow, port_digits, port_of_digits, behind, bytes_front}
+use Rattle.click_expand.proofs.OfFlatText.Lines.{element_statement, connection_statement, IsDeclared, IsJoined, AreLines, no_lines, required, first_connection, first_element}
+use Rattle.click_expand.proofs.OfFlatText.TextPieces.{Stops, read_word, read_require, read_number, read_string, read_blank, read_semicolon, read_open, read_close, read_colons, read_arrow, port_digits, port_of_digits, behind, bytes_front}
 
 -- from offset `at` on, the text has tokens that are these statements
 pub record Told (at : ℕ) (text : List ℕ) (ss : List Statement) : Type 0 where
@@ -282,11 +283,11 @@ read_connection text at rest all k i n m h =
           };
     }
 
--- what holds of the lines of these elements and connections
-pub record AllTold (text : List ℕ) (at : ℕ) (rest : List ℕ) (all es : List FlatElement) (ks : List Connection) : Type 0 where
+-- what holds of the lines of these elements and connections, with the truth value `g` of `AreLines`
+pub record AllTold (text : List ℕ) (at : ℕ) (rest : List ℕ) (g : Bool) (all es : List FlatElement) (ks : List Connection) : Type 0 where
   pub statements : List Statement
   pub told : Told at rest statements
-  pub lines : AreLines text all es ks statements
+  pub lines : AreLines text all g es ks statements
 
 abbrev pub IsWordy : FlatElement → Type 0
 IsWordy e = IsPiece piece.Word e.name
@@ -299,35 +300,83 @@ name_word [] i a h = absurd (omega arith)
 name_word (e ∷ es) zero a h = a.0
 name_word (e ∷ es) (suc i) a h = name_word es i a.1 (omega arith)
 
-read_connections : (text : List ℕ) (at : ℕ) (all : List FlatElement) (ks : List Connection) → AllByRecursion IsWordy all → AllByRecursion (IsWritable all) ks → drop at text ≡ flat_map (connection_line all) ks →
-    AllTold text at (flat_map (connection_line all) ks) all [] ks
-read_connections text at all [] n w h = record { statements = []; told = record { tokens = []; reads = ends at; stated = no_more; nests = tt }; lines = no_lines }
-read_connections text at all (k ∷ ks) n w h =
+read_connections : (text : List ℕ) (at : ℕ) (g : Bool) (all : List FlatElement) (ks : List Connection) → AllByRecursion IsWordy all → AllByRecursion (IsWritable all) ks → drop at text ≡ flat_map (connection_line all) ks →
+    AllTold text at (flat_map (connection_line all) ks) g all [] ks
+read_connections text at g all [] n w h = record { statements = []; told = record { tokens = []; reads = ends at; stated = no_more; nests = tt }; lines = no_lines }
+read_connections text at g all (k ∷ ks) n w h =
     let rest = flat_map (connection_line all) ks in
     let l = read_connection text at rest all k w.0 (name_word all k.from n w.0.from_there) (name_word all k.to n w.0.to_there) h in
-    let m = read_connections text l.behind all ks n w.1 l.there in
+    let m = read_connections text l.behind g all ks n w.1 l.there in
     record {
       statements = connection_statement l.from l.to l.out l.into ∷ m.statements;
       told = l.told m.statements m.told;
       lines = first_connection k ks l.from l.to l.out l.into m.statements l.fits m.lines;
     }
 
-read_elements : (text : List ℕ) (at : ℕ) (all es : List FlatElement) (ks : List Connection) → AllByRecursion IsWordy all → AllByRecursion IsWordy es → AllByRecursion IsTextual es →
-    AllByRecursion (IsWritable all) ks → drop at text ≡ flat_map element_line es ++ flat_map (connection_line all) ks → AllTold text at (flat_map element_line es ++ flat_map (connection_line all) ks) all es ks
-read_elements text at all [] ks n ns ts w h = read_connections text at all ks n w h
-read_elements text at all (e ∷ es) ks n ns ts w h =
+-- the class of the element is visible: `g` is true if it is of the gateway package
+abbrev IsVisible : Bool → FlatElement → Type 0
+IsVisible g e = is_gateway e.class ≡ true → g ≡ true
+
+read_elements : (text : List ℕ) (at : ℕ) (g : Bool) (all es : List FlatElement) (ks : List Connection) → AllByRecursion (IsVisible g) es → AllByRecursion IsWordy all → AllByRecursion IsWordy es → AllByRecursion IsTextual es →
+    AllByRecursion (IsWritable all) ks → drop at text ≡ flat_map element_line es ++ flat_map (connection_line all) ks → AllTold text at (flat_map element_line es ++ flat_map (connection_line all) ks) g all es ks
+read_elements text at g all [] ks i n ns ts w h = read_connections text at g all ks n w h
+read_elements text at g all (e ∷ es) ks i n ns ts w h =
     let rest = flat_map element_line es ++ flat_map (connection_line all) ks in
     let shape : flat_map element_line (e ∷ es) ++ flat_map (connection_line all) ks ≡ element_line e ++ rest = append_assoc (element_line e) (flat_map element_line es) (flat_map (connection_line all) ks) in
     let l = read_element text at rest e ns.0 ts.0 (h ∙ shape) in
-    let m = read_elements text l.behind all es ks n ns.1 ts.1 w l.there in
+    let m = read_elements text l.behind g all es ks i.1 n ns.1 ts.1 w l.there in
     let T : List ℕ → Type 0 = λ t. Told at t (element_statement l.name l.class l.string ∷ m.statements) in
     record {
       statements = element_statement l.name l.class l.string ∷ m.statements;
       told = subst T (sym shape) (l.told m.statements m.told);
-      lines = first_element e es ks l.name l.class l.string m.statements l.fits m.lines;
+      lines = first_element e es ks l.name l.class l.string m.statements l.fits i.0 m.lines;
+    }
+
+-- every class is visible with the gateway package
+all_visible : (es : List FlatElement) → AllByRecursion (IsVisible true) es
+all_visible [] = tt
+all_visible (e ∷ es) = (λ k. refl, all_visible es)
+
+-- every class is visible without the gateway package, if no element is of one of its classes
+visible_without : (es : List FlatElement) → uses_gateway es ≡ false → AllByRecursion (IsVisible false) es
+visible_without [] h = tt
+visible_without (e ∷ es) h = let p = or_parts (is_gateway e.class) (uses_gateway es) h in ((λ k. sym p.0 ∙ k), visible_without es p.1)
+
+-- the line `require(gateway);` has the tokens of the statement that requires the gateway package
+required_told : (rest : List ℕ) (ss : List Statement) → Told 18 rest ss → Told 0 (codes "require" ++ (40 ∷ (codes "gateway)" ++ (59 ∷ 10 ∷ rest)))) (statement.Requirement (Some (span 7 16)) ∷ ss)
+required_told rest ss m =
+    let us2 = token.Semicolon (span 16 17) ∷ m.tokens in
+    let us1 = token.String (span 7 16) ∷ us2 in
+    let x2 = read_semicolon 16 (10 ∷ rest) m.tokens (read_blank 17 10 rest m.tokens refl m.reads) in
+    let x1 = read_string 7 (codes "gateway)") (59 ∷ 10 ∷ rest) us2 refl x2 in
+    record {
+      tokens = token.Require (span 0 7) ∷ us1;
+      reads = read_require 0 (codes "require") (40 ∷ (codes "gateway)" ++ (59 ∷ 10 ∷ rest))) us1 refl (refl, refl) x1;
+      stated = stated (requirement_stated string) (empty m.stated);
+      nests = (tt, (tt, (tt, m.nests)));
     }
 
 -- the whole text
 pub read_text : (f : Flat) → AllByRecursion IsWordy f.elements → AllByRecursion IsTextual f.elements → AllByRecursion (IsWritable f.elements) f.connections →
-    AllTold (flat_text_of f) 0 (flat_text_of f) f.elements f.elements f.connections
-read_text f n t w = read_elements (flat_text_of f) 0 f.elements f.elements f.connections n n t w refl
+    AllTold (flat_text_of f) 0 (flat_text_of f) false f.elements f.elements f.connections
+read_text f n t w = by_test (uses_gateway f.elements) refl
+  where
+    E : List ℕ
+    E = flat_map element_line f.elements
+
+    C : List ℕ
+    C = flat_map (connection_line f.elements) f.connections
+
+    by_test : (b : Bool) → uses_gateway f.elements ≡ b → AllTold (flat_text_of f) 0 (flat_text_of f) false f.elements f.elements f.connections
+    by_test false u =
+        let e : flat_text_of f ≡ E ++ C = rw u refl in
+        rw e (read_elements (E ++ C) 0 false f.elements f.elements f.connections (visible_without f.elements u) n n t w refl)
+    by_test true u =
+        let whole = codes "require" ++ (40 ∷ (codes "gateway)" ++ (59 ∷ 10 ∷ (E ++ C)))) in
+        let e : flat_text_of f ≡ whole = rw u refl in
+        let m = read_elements whole 18 true f.elements f.elements f.connections (all_visible f.elements) n n t w refl in
+        rw e (record {
+          statements = statement.Requirement (Some (span 7 16)) ∷ m.statements;
+          told = required_told (E ++ C) m.statements m.told;
+          lines = required f.elements f.connections (span 7 16) m.statements refl m.lines;
+        })

@@ -65,7 +65,7 @@ one_of false false false false false false s t u v w x = refl
 own : (s : RouterState) (name : List ℕ) → is_global name ≡ is_some (global_value s name)
 unfolding global_value
 own s name = one_of (bytes_eq name (codes "version")) (bytes_eq name (codes "list")) (bytes_eq name (codes "config")) (bytes_eq name (codes "flatconfig"))
-    (bytes_eq name (codes "classes")) (bytes_eq name (codes "overruns")) (codes "1") (element_list s.flat.elements) s.text (flat_text_of s.flat) class_list (decimal s.plant.overruns)
+    (bytes_eq name (codes "classes")) (bytes_eq name (codes "overruns")) (codes "1") (element_list s.flat.elements) s.text (flat_text_of s.flat) (class_list s.flat.elements) (decimal s.plant.overruns)
 
 read_own : (name : List ℕ) (value : Option (List ℕ)) → Foretells (check_of (is_some value) (is_hotconfig name)) (read_global name value)
 read_own name (Some value) = refl

@@ -16,7 +16,7 @@ known handler.FlatConfig s = refl
 known handler.Classes s = refl
 known handler.Overruns s = refl
 
-pub classes_value : (s : RouterState) → global_value s (codes "classes") ≡ Some class_list
+pub classes_value : (s : RouterState) → global_value s (codes "classes") ≡ Some (class_list s.flat.elements)
 unfolding global_value
 classes_value s = refl
 

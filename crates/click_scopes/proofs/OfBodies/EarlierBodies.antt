@@ -12,7 +12,7 @@ use Rattle.click_text.specs.declared.syntax.Head.{Head}
 use Rattle.click_text.specs.declared.syntax.Head.TheVariants as head
 use Rattle.click_text.specs.declared.syntax.Element.{Element}
 use Rattle.click_text.specs.declared.syntax.Link.{Link}
-use Rattle.click_base.specs.Classes.{class_of}
+use Rattle.click_base.specs.Classes.{class_of, gateway_class_of}
 use Rattle.click_base.specs.declared.class.Class.{Class}
 use Rattle.click_text.specs.declared.syntax.Statement.{Statement}
 use Rattle.click_text.specs.declared.syntax.Statement.TheVariants as statement
@@ -21,7 +21,7 @@ use Rattle.click_text.specs.declared.syntax.Config.{Config}
 use Rattle.click_text.specs.Spans.{bytes_at}
 use Rattle.click_text.specs.Grammar.{element}
 use Rattle.click_scopes.specs.Scopes.{Scope, inside, is_body, statements_of, statement_elements, class_bodies, head_bodies, link_bodies, bodies_in, Stands, at_top, nested}
-use Rattle.click_scopes.specs.Classes.{Meaning, primitive, compound, meaning, class_meaning}
+use Rattle.click_scopes.specs.Classes.{Meaning, primitive, compound, meaning, class_meaning, class_or, requires_gateway}
 use Rattle.click_scopes.specs.Elements.{Placed, place, placed, Role, pseudo, refers, makes, role, count_with, head_class, element_meaning, ScopeElement, scope_element, scope_element_by, scope_elements_from}
 use Rattle.click_scopes.specs.Faults.{scope_placed, scope_declared, elements_of_scope}
 use Rattle.click_scopes.specs.kept.Nesting.{direct, Nests, no_bodies, next_body, IsNested}
@@ -143,6 +143,11 @@ by-synonym : (v : List Statement) (b : ℕ) (m k : Option Meaning) (t : Bool) �
 by-synonym v b m k true e f g = f e
 by-synonym v b m k false e f g = g e
 
+by-gateway : (k : Option Class) (m : Option Meaning) (b : ℕ) (t : Bool) → (if t then class_or k m else m) ≡ Some (compound b) → m ≡ Some (compound b)
+by-gateway k m b false e = e
+by-gateway None m b true e = e
+by-gateway (Some c) m b true e = cc
+
 pub defined : (text : List ℕ) (v : List Statement) (w : List ℕ) (b : ℕ) → meaning text v w ≡ Some (compound b) → Defines v b
 unfolding meaning
 defined text [] w b e = absurd (not-primitive (class_of w) b e)
@@ -153,7 +158,8 @@ defined text (statement.Synonym n d ∷ v) w b e =
     (by-synonym v b (meaning text v (bytes_at text d)) (meaning text v w) (bytes_eq (bytes_at text n) w) e (λ h. defined text v (bytes_at text d) b h) (λ h. defined text v w b h))
 defined text (statement.Chain k ∷ v) w b e = defines-behind (statement.Chain k) v b (defined text v w b e)
 defined text (statement.Declaration k ∷ v) w b e = defines-behind (statement.Declaration k) v b (defined text v w b e)
-defined text (statement.Requirement k ∷ v) w b e = defines-behind (statement.Requirement k) v b (defined text v w b e)
+defined text (statement.Requirement k ∷ v) w b e =
+    defines-behind (statement.Requirement k) v b (defined text v w b (by-gateway (gateway_class_of w) (meaning text v w) b (requires_gateway text k) e))
 
 -- The body is in one of these scopes, and its index is below the limit.
 pub record IsKnown (c : Config) (scopes : List Scope) (b limit : ℕ) : Type 0 where

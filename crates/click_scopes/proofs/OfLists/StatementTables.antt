@@ -1,5 +1,5 @@
 -- What is stored of statements, one after another.
-use Rattle.std.proofs.Common.{◌≡◌, ℕ, suc, zero, ◌+◌, ◌<◌, ◌≤◌, List, [], ◌∷◌, ◌++◌, map, length, get_or, take, drop, reverse, Contains, Option, Some, refl, sym, ap, ◌∙◌, append_assoc, subst, arith}
+use Rattle.std.proofs.Common.{◌≡◌, ℕ, suc, zero, ◌+◌, ◌<◌, ◌≤◌, List, [], ◌∷◌, ◌++◌, map, length, get_or, take, drop, reverse, Contains, Option, Some, None, Bool, true, false, refl, sym, ap, ◌∙◌, append_assoc, subst, arith}
 use Rattle.std.specs.List.{slice_get}
 use Rattle.std.proofs.lemmas.List.{append-nil, at_drop_all, at_drop_more, take_more, drop_more, reverse-append, take-append-drop, map-append}
 use Rattle.std.proofs.lemmas.List.Elements.{Contains-append_right}
@@ -10,9 +10,10 @@ use Rattle.click_text.specs.declared.syntax.Statement.TheVariants as statement
 use Rattle.click_text.specs.declared.syntax.Declaration.{Declaration}
 use Rattle.click_scopes.specs.Scopes.{head_bodies, link_bodies, bodies_in, statement_elements}
 use Rattle.click_scopes.specs.kept.Nesting.{direct}
-use Rattle.click_scopes.specs.Classes.{Meaning}
+use Rattle.click_scopes.specs.Classes.{Meaning, requires_gateway}
 use Rattle.click_scopes.specs.Elements.{Placed, place, placed}
-use Rattle.click_scopes.specs.kept.Tables.{meaning_by, IsBelow, IsShown, Shows, AreWritten, IsEntry, IsMore}
+use Rattle.click_scopes.specs.kept.Tables.{meaning_by, IsBelow, IsShown, IsRequired, Shows, AreWritten, IsEntry, IsMore}
+use Rattle.std.specs.Prelude.{MatchBool}
 use Rattle.click_scopes.specs.kept.Standing.{kept_link, kept_name, kept_elements, nested_body, Each, IsNestedBody, AreNestedBodies}
 use Rattle.click_scopes.specs.declared.classes.ClassEntry.{ClassEntry}
 use Rattle.click_scopes.specs.declared.written_scopes.WrittenElement.{WrittenElement}
@@ -60,6 +61,7 @@ module _ (text : List ℕ) where
     entry = h.entry;
     is = h.is;
     there = slice_get-more old more h.place h.entry h.there;
+    named = h.named;
     same_name = h.same_name;
     class = h.class;
     below = h.below;
@@ -70,24 +72,39 @@ module _ (text : List ℕ) where
     entry = h.entry;
     is = h.is;
     there = slice_get-more old more h.place h.entry h.there;
+    named = h.named;
     same_name = h.same_name;
     class = h.class;
     below = h.below;
     older = shows-more old more h.entry.older vs h.older;
   }
-  shows-more old more visible_class (statement.Requirement t ∷ vs) h = shows-more old more visible_class vs h
+  shows-more old more visible_class (statement.Requirement t ∷ vs) h = by_test (λ u k. shows-more old more u vs k) (requires_gateway text t) h
+    where
+      by_test : ((u : Option ℕ) → Shows text old u vs → Shows text (old ++ more) u vs) → (b : Bool) → MatchBool b (IsRequired old visible_class (λ u. Shows text old u vs)) (Shows text old visible_class vs) →
+          MatchBool b (IsRequired (old ++ more) visible_class (λ u. Shows text (old ++ more) u vs)) (Shows text (old ++ more) visible_class vs)
+      by_test f true k = record {
+        place = k.place;
+        entry = k.entry;
+        is = k.is;
+        there = slice_get-more old more k.place k.entry k.there;
+        gateway = k.gateway;
+        below = k.below;
+        older = f k.entry.older k.older;
+      }
+      by_test f false k = f visible_class k
 
   pub shows-grown : (old new : List ClassEntry) (visible_class : Option ℕ) (vs : List Statement) → IsMore old new → Shows text old visible_class vs → Shows text new visible_class vs
   shows-grown old new visible_class vs m h = subst (λ es. Shows text es visible_class vs) (sym m.1) (shows-more old m.0 visible_class vs h)
 
   -- a definition at the end
-  defined-there : (es : List ClassEntry) (visible_class : Option ℕ) (vs : List Statement) (e : ClassEntry) (n : Span) (m : Option Meaning) → e.name ≡ n → meaning_by e.class ≡ m → e.older ≡ visible_class → Shows text es visible_class vs →
+  defined-there : (es : List ClassEntry) (visible_class : Option ℕ) (vs : List Statement) (e : ClassEntry) (n : Span) (m : Option Meaning) → e.gateway ≡ false → e.name ≡ n → meaning_by e.class ≡ m → e.older ≡ visible_class → Shows text es visible_class vs →
       IsShown text (es ++ e ∷ []) (Some (length es)) n m (λ t. Shows text (es ++ e ∷ []) t vs)
-  defined-there es visible_class vs e n m p q r h = record {
+  defined-there es visible_class vs e n m g p q r h = record {
     place = length es;
     entry = e;
     is = refl;
     there = slice_get-last es e;
+    named = g;
     same_name = p;
     class = q;
     below = subst (λ t. IsBelow t (length es)) (sym r) (shown-below text es visible_class vs h);
@@ -98,9 +115,34 @@ module _ (text : List ℕ) where
       Shows text (es ++ e ∷ []) (Some (length es)) (st ∷ vs)
   defined es visible_class vs (statement.Chain k) e d h = absurd d
   defined es visible_class vs (statement.Declaration k) e d h = absurd d
-  defined es visible_class vs (statement.Definition n b) e d h = defined-there es visible_class vs e n _ d.0 d.1 d.2 h
-  defined es visible_class vs (statement.Synonym n w) e d h = defined-there es visible_class vs e n _ d.0 d.1 d.2 h
-  defined es visible_class vs (statement.Requirement t) e d h = absurd d
+  defined es visible_class vs (statement.Definition n b) e d h = defined-there es visible_class vs e n _ d.4 d.0 d.1 d.2 h
+  defined es visible_class vs (statement.Synonym n w) e d h = defined-there es visible_class vs e n _ d.4 d.0 d.1 d.2 h
+  defined es visible_class vs (statement.Requirement t) e d h = by_test (requires_gateway text t) d.0
+    where
+      by_test : (b : Bool) → b ≡ true →
+          MatchBool b (IsRequired (es ++ e ∷ []) (Some (length es)) (λ u. Shows text (es ++ e ∷ []) u vs)) (Shows text (es ++ e ∷ []) (Some (length es)) vs)
+      by_test true k = record {
+        place = length es;
+        entry = e;
+        is = refl;
+        there = slice_get-last es e;
+        gateway = d.1;
+        below = subst (λ u. IsBelow u (length es)) (sym d.2) (shown-below text es visible_class vs h);
+        older = subst (λ u. Shows text (es ++ e ∷ []) u vs) (sym d.2) (shows-more es (e ∷ []) visible_class vs h);
+      }
+      by_test false k = absurd (cc k)
+
+  -- a statement without a definition leaves the visible definitions unchanged
+  pub undefined : (es : List ClassEntry) (visible_class : Option ℕ) (vs : List Statement) (st : Statement) → IsEntry text vs visible_class st None → Shows text es visible_class vs → Shows text es visible_class (st ∷ vs)
+  undefined es visible_class vs (statement.Chain k) d h = h
+  undefined es visible_class vs (statement.Declaration k) d h = h
+  undefined es visible_class vs (statement.Definition n b) d h = absurd d
+  undefined es visible_class vs (statement.Synonym n w) d h = absurd d
+  undefined es visible_class vs (statement.Requirement t) d h = by_test (requires_gateway text t) d
+    where
+      by_test : (b : Bool) → b ≡ false → MatchBool b (IsRequired es visible_class (λ u. Shows text es u vs)) (Shows text es visible_class vs)
+      by_test true k = absurd (cc k)
+      by_test false k = h
 
   pub written-grown : (old new : List ClassEntry) (ws : List WrittenElement) (ps : List Placed) → IsMore old new → AreWritten text old ws ps → AreWritten text new ws ps
   written-grown old new [] [] m h = tt

@@ -88,7 +88,7 @@ module _ (text : List ℕ) (vs : List Statement) (visible_class : Option ℕ) wh
   entry-synonym (statement.Synonym n k) e w d o =
       let same : k ≡ w = some_same (sym d.3 ∙ o) in
       (n, ap (λ x. statement.Synonym n x) same, d.1 ∙ ap (λ x. meaning text vs (bytes_at text x)) same)
-  entry-synonym (statement.Requirement t) e w d o = absurd d
+  entry-synonym (statement.Requirement t) e w d o = let u : None ≡ Some w = sym d.3 ∙ o in absurd (cc u)
 
   synonym-entry : (n w : Span) (o : Option ClassEntry) → IsEntry text vs visible_class (statement.Synonym n w) o →
       (e : ClassEntry) × (o ≡ Some e) × (e.original ≡ Some w) × (meaning_by e.class ≡ meaning text vs (bytes_at text w))

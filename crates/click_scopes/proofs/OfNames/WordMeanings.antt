@@ -1,5 +1,6 @@
 -- The meaning of a word, found by going back from one definition to the one before it.
 use Rattle.std.proofs.Common.{◌≡◌, ℕ, ◌<◌, List, [], ◌∷◌, length, Bool, true, false, cond, Option, Some, None, refl, sym, ap, ◌∙◌, nat_lt, subst}
+use Rattle.std.specs.Prelude.{MatchBool}
 use Rattle.std.specs.List.{slice_get}
 use Rattle.std.specs.Str.{bytes_eq}
 use Rattle.std.proofs.lemmas.Option.{slice_get_within}
@@ -7,8 +8,8 @@ use Rattle.std.proofs.lemmas.Bool.{lt-ltb, ltb-true}
 use Rattle.click_text.specs.declared.syntax.Statement.{Statement}
 use Rattle.click_text.specs.declared.syntax.Statement.TheVariants as statement
 use Rattle.click_text.specs.Spans.{bytes_at}
-use Rattle.click_scopes.specs.Classes.{Meaning, compound, meaning, primitive_of}
-use Rattle.click_scopes.specs.kept.Tables.{meaning_by, IsBelow, IsShown, Shows, entry_found, entry_from}
+use Rattle.click_scopes.specs.Classes.{Meaning, compound, meaning, primitive_of, requires_gateway, gateway_or}
+use Rattle.click_scopes.specs.kept.Tables.{meaning_by, entry_meaning, IsBelow, IsShown, IsRequired, Shows, entry_found, entry_from}
 use Rattle.click_scopes.specs.declared.classes.ClassEntry.{ClassEntry}
 
 abbrev place_of : Option (ℕ × ClassEntry) → ℕ → ℕ
@@ -49,7 +50,8 @@ module _ (text : List ℕ) where
   unfolding meaning
   meaning-declaration d older w = refl
 
-  pub meaning-requirement : (t : _) (older : List Statement) (w : List ℕ) → meaning text (statement.Requirement t ∷ older) w ≡ meaning text older w
+  pub meaning-requirement : (t : _) (older : List Statement) (w : List ℕ) →
+      meaning text (statement.Requirement t ∷ older) w ≡ cond (requires_gateway text t) (gateway_or w (meaning text older w)) (meaning text older w)
   unfolding meaning
   meaning-requirement t older w = refl
 
@@ -71,7 +73,12 @@ module _ (text : List ℕ) where
     found-nothing (statement.Declaration d ∷ vs) w h = meaning-declaration d vs w ∙ found-nothing vs w h
     found-nothing (statement.Definition n b ∷ vs) w h = absurd (cc h.is)
     found-nothing (statement.Synonym n d ∷ vs) w h = absurd (cc h.is)
-    found-nothing (statement.Requirement t ∷ vs) w h = meaning-requirement t vs w ∙ found-nothing vs w h
+    found-nothing (statement.Requirement t ∷ vs) w h = by_test (λ k. found-nothing vs w k) (requires_gateway text t) refl h
+      where
+        by_test : (Shows text class_table None vs → meaning text vs w ≡ primitive_of w) → (b : Bool) → requires_gateway text t ≡ b →
+            MatchBool b (IsRequired class_table None (λ u. Shows text class_table u vs)) (Shows text class_table None vs) → meaning text (statement.Requirement t ∷ vs) w ≡ primitive_of w
+        by_test f true e k = absurd (cc k.is)
+        by_test f false e k = meaning-requirement t vs w ∙ ap (λ b. cond b (gateway_or w (meaning text vs w)) (meaning text vs w)) e ∙ f k
 
     -- the definition at index i, and what is visible before it
     pub record Found (i : ℕ) (vs : List Statement) (w : List ℕ) : Type 0 where
@@ -80,7 +87,7 @@ module _ (text : List ℕ) where
       pub before : List Statement
       pub shows : Shows text class_table entry.older before
       pub below : IsBelow entry.older i
-      pub means : meaning text vs w ≡ cond (bytes_eq (bytes_at text entry.name) w) (meaning_by entry.class) (meaning text before w)
+      pub means : meaning text vs w ≡ entry_meaning text entry w (meaning text before w)
 
     found-shown : (i : ℕ) (n : _) (m : Option Meaning) (vs older : List Statement) (w : List ℕ) →
         IsShown text class_table (Some i) n m (λ t. Shows text class_table t older) →
@@ -95,7 +102,22 @@ module _ (text : List ℕ) where
           below = subst (IsBelow h.entry.older) at h.below;
           means = e
               ∙ ap (λ x. cond (bytes_eq (bytes_at text x) w) m (meaning text older w)) (sym h.same_name)
-              ∙ ap (λ x. cond (bytes_eq (bytes_at text h.entry.name) w) x (meaning text older w)) (sym h.class);
+              ∙ ap (λ x. cond (bytes_eq (bytes_at text h.entry.name) w) x (meaning text older w)) (sym h.class)
+              ∙ ap (λ b. cond b (gateway_or w (meaning text older w)) (cond (bytes_eq (bytes_at text h.entry.name) w) (meaning_by h.entry.class) (meaning text older w))) (sym h.named);
+        }
+
+    found-required : (i : ℕ) (vs older : List Statement) (w : List ℕ) → IsRequired class_table (Some i) (λ t. Shows text class_table t older) →
+        meaning text vs w ≡ gateway_or w (meaning text older w) → Found i vs w
+    found-required i vs older w h e =
+        let at : h.place ≡ i = cc h.is in
+        record {
+          entry = h.entry;
+          there = ap (slice_get class_table) (sym at) ∙ h.there;
+          before = older;
+          shows = h.older;
+          below = subst (IsBelow h.entry.older) at h.below;
+          means = e
+              ∙ ap (λ b. cond b (gateway_or w (meaning text older w)) (cond (bytes_eq (bytes_at text h.entry.name) w) (meaning_by h.entry.class) (meaning text older w))) (sym h.gateway);
         }
 
     same-found : (i : ℕ) (vs older : List Statement) (w : List ℕ) → meaning text vs w ≡ meaning text older w → Found i older w → Found i vs w
@@ -108,7 +130,16 @@ module _ (text : List ℕ) where
     found i (statement.Declaration d ∷ vs) w h = same-found i _ vs w (meaning-declaration d vs w) (found i vs w h)
     found i (statement.Definition n b ∷ vs) w h = found-shown i n _ _ vs w h (meaning-definition n b vs w)
     found i (statement.Synonym n d ∷ vs) w h = found-shown i n _ _ vs w h (meaning-synonym n d vs w)
-    found i (statement.Requirement t ∷ vs) w h = same-found i _ vs w (meaning-requirement t vs w) (found i vs w h)
+    found i (statement.Requirement t ∷ vs) w h = by_test (λ k. found i vs w k) (requires_gateway text t) refl h
+      where
+        by_test : (Shows text class_table (Some i) vs → Found i vs w) → (b : Bool) → requires_gateway text t ≡ b →
+            MatchBool b (IsRequired class_table (Some i) (λ u. Shows text class_table u vs)) (Shows text class_table (Some i) vs) → Found i (statement.Requirement t ∷ vs) w
+        by_test f true e k =
+            found-required i (statement.Requirement t ∷ vs) vs w k
+            (meaning-requirement t vs w ∙ ap (λ b. cond b (gateway_or w (meaning text vs w)) (meaning text vs w)) e)
+        by_test f false e k =
+            same-found i (statement.Requirement t ∷ vs) vs w
+            (meaning-requirement t vs w ∙ ap (λ b. cond b (gateway_or w (meaning text vs w)) (meaning text vs w)) e) (f k)
 
     -- the index of a visible definition is an index of the list
     pub shown-below : (visible_class : Option ℕ) (vs : List Statement) → Shows text class_table visible_class vs → IsBelow visible_class (length class_table)
@@ -119,7 +150,7 @@ module _ (text : List ℕ) where
     pub found-older : (at : Option ℕ) (limit : ℕ) (i : ℕ) (e : ClassEntry) (vs : List Statement) (w : List ℕ) → Some (i, e) ≡ entry_from class_table at limit →
         Shows text class_table at vs →
         (before : List Statement) × Shows text class_table e.older before × IsBelow e.older i
-        × (meaning text vs w ≡ cond (bytes_eq (bytes_at text e.name) w) (meaning_by e.class) (meaning text before w))
+        × (meaning text vs w ≡ entry_meaning text e w (meaning text before w))
     found-older at limit i e vs w h s =
         let r = found-entry class_table at limit i e h in
         let f = found i vs w (subst (λ t. Shows text class_table t vs) r.1 s) in
@@ -127,7 +158,7 @@ module _ (text : List ℕ) where
           f.before,
           subst (λ (x : ClassEntry). Shows text class_table x.older f.before) same f.shows,
           subst (λ (x : ClassEntry). IsBelow x.older i) same f.below,
-          subst (λ (x : ClassEntry). meaning text vs w ≡ cond (bytes_eq (bytes_at text x.name) w) (meaning_by x.class) (meaning text f.before w)) same f.means,
+          subst (λ (x : ClassEntry). meaning text vs w ≡ entry_meaning text x w (meaning text f.before w)) same f.means,
         )
 
     pub found-end : (at : Option ℕ) (limit : ℕ) (vs : List Statement) (w : List ℕ) → Shows text class_table at vs → IsBelow at limit →

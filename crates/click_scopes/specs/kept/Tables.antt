@@ -1,12 +1,13 @@
 -- The stored definitions of classes: a list in which each definition has the index of the one that
--- is visible before it.
-use Rattle.std.specs.Prelude.{◌≡◌, ◌<◌, ℕ, List, [], ◌∷◌, ◌++◌, map, filter_map, slice_get, Bool, nat_lt, Option, Some, None, if◌then◌else◌}
+-- is visible before it. A requirement of the gateway package is stored as one definition.
+use Rattle.std.specs.Prelude.{◌≡◌, ◌<◌, ℕ, List, [], ◌∷◌, ◌++◌, map, filter_map, slice_get, Bool, true, false, MatchBool, nat_lt, Option, Some, None, if◌then◌else◌}
 use Rattle.click_text.specs.declared.syntax.Span.{Span}
 use Rattle.click_text.specs.declared.syntax.Statement.{Statement}
 use Rattle.click_text.specs.declared.syntax.Statement.TheVariants as statement
 use Rattle.click_text.specs.Spans.{bytes_at}
 use Rattle.click_text.specs.declared.syntax.Element.{Element}
-use Rattle.click_scopes.specs.Classes.{Meaning, primitive, compound, meaning}
+use Rattle.click_scopes.specs.Classes.{Meaning, primitive, compound, meaning, requires_gateway, gateway_or}
+use Rattle.std.specs.Str.{bytes_eq}
 use Rattle.click_scopes.specs.Elements.{Placed, Role, pseudo, refers, makes, role, count_with, head_name, ScopeElement, string_or_empty}
 use Rattle.click_scopes.specs.declared.written_scopes.WrittenElement.{WrittenElement}
 use Rattle.click_scopes.specs.declared.scope_elements.Role.{Role as RoleKept}
@@ -33,18 +34,32 @@ pub record IsShown (text : List ℕ) (class_table : List ClassEntry) (visible_cl
   pub entry : ClassEntry
   pub is : visible_class ≡ Some place
   pub there : slice_get class_table place ≡ Some entry
+  pub named : entry.gateway ≡ false
   pub same_name : entry.name ≡ name
   pub class : meaning_by entry.class ≡ m
   pub below : IsBelow entry.older place
   pub older : before entry.older
 
--- from index `visible_class` back, the list has the definitions of these statements, of which the last comes
--- first
+-- At index `place` is a requirement of the gateway package, and what is visible before it is at its
+-- index `older`.
+pub record IsRequired (class_table : List ClassEntry) (visible_class : Option ℕ) (before : Option ℕ → Type 0) : Type 0 where
+  pub place : ℕ
+  pub entry : ClassEntry
+  pub is : visible_class ≡ Some place
+  pub there : slice_get class_table place ≡ Some entry
+  pub gateway : entry.gateway ≡ true
+  pub below : IsBelow entry.older place
+  pub older : before entry.older
+
+-- from index `visible_class` back, the list has the definitions of these statements, of which the
+-- last comes first
 abbrev pub Shows : List ℕ → List ClassEntry → Option ℕ → List Statement → Type 0
 Shows text class_table visible_class [] = visible_class ≡ None
 Shows text class_table visible_class (statement.Definition n b ∷ older) = IsShown text class_table visible_class n (Some (compound b)) (λ t. Shows text class_table t older)
 Shows text class_table visible_class (statement.Synonym n c ∷ older) =
     IsShown text class_table visible_class n (meaning text older (bytes_at text c)) (λ t. Shows text class_table t older)
+Shows text class_table visible_class (statement.Requirement t ∷ older) =
+    MatchBool (requires_gateway text t) (IsRequired class_table visible_class (λ u. Shows text class_table u older)) (Shows text class_table visible_class older)
 Shows text class_table visible_class (_ ∷ older) = Shows text class_table visible_class older
 
 -- the definition at an index below a limit, with its index
@@ -55,6 +70,10 @@ entry_found i (Some e) = Some (i, e)
 abbrev pub entry_from : List ClassEntry → Option ℕ → ℕ → Option (ℕ × ClassEntry)
 entry_from class_table None limit = None
 entry_from class_table (Some i) limit = if nat_lt i limit then entry_found i (slice_get class_table i) else None
+
+-- the meaning of the word w by the definition e, or the other meaning if e does not define w
+abbrev pub entry_meaning : List ℕ → ClassEntry → List ℕ → Option Meaning → Option Meaning
+entry_meaning text e w other = if e.gateway then gateway_or w other else if bytes_eq (bytes_at text e.name) w then meaning_by e.class else other
 
 -- w is the stored form of the written element p.
 pub record IsWrittenElement (text : List ℕ) (class_table : List ClassEntry) (w : WrittenElement) (p : Placed) : Type 0 where
@@ -93,10 +112,12 @@ numbers_from text in_body declared n (e ∷ es) = n ∷ numbers_from text in_bod
 abbrev pub IsEntry : List ℕ → List Statement → Option ℕ → Statement → Option ClassEntry → Type 0
 IsEntry text visible visible_class (statement.Definition n b) None = ⊥
 IsEntry text visible visible_class (statement.Definition n b) (Some e) =
-    (e.name ≡ n) × (meaning_by e.class ≡ Some (compound b)) × (e.older ≡ visible_class) × (e.original ≡ None)
+    (e.name ≡ n) × (meaning_by e.class ≡ Some (compound b)) × (e.older ≡ visible_class) × (e.original ≡ None) × (e.gateway ≡ false)
 IsEntry text visible visible_class (statement.Synonym n d) None = ⊥
 IsEntry text visible visible_class (statement.Synonym n d) (Some e) =
-    (e.name ≡ n) × (meaning_by e.class ≡ meaning text visible (bytes_at text d)) × (e.older ≡ visible_class) × (e.original ≡ Some d)
+    (e.name ≡ n) × (meaning_by e.class ≡ meaning text visible (bytes_at text d)) × (e.older ≡ visible_class) × (e.original ≡ Some d) × (e.gateway ≡ false)
+IsEntry text visible visible_class (statement.Requirement t) None = requires_gateway text t ≡ false
+IsEntry text visible visible_class (statement.Requirement t) (Some e) = (requires_gateway text t ≡ true) × (e.gateway ≡ true) × (e.older ≡ visible_class) × (e.original ≡ None)
 IsEntry text visible visible_class _ None = Unit {0}
 IsEntry text visible visible_class _ (Some e) = ⊥
 

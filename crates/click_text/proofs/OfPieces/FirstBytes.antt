@@ -7,10 +7,11 @@ use Rattle.std.specs.Option.{option_or}
 use Rattle.std.proofs.lemmas.Bool.{false≢true, and_parts}
 use Rattle.std.proofs.lemmas.Bool.Decides.{nat_tests}
 use Rattle.std.proofs.lemmas.List.{take-append-drop}
+use Rattle.click_base.specs.Numbers.{digit}
 use Rattle.click_text.specs.declared.lexer.Piece.{Piece}
 use Rattle.click_text.specs.declared.lexer.Piece.TheVariants as piece
 use Rattle.click_text.specs.kept.SingleBytePieces.{mark_of}
-use Rattle.click_text.specs.Pieces.{white, digit, word_byte, is_word, IsPiece, NoPiece}
+use Rattle.click_text.specs.Pieces.{white, word_byte, is_word, IsPiece, NoPiece}
 
 -- `Word` for each kind that consists of word bytes; any other kind unchanged
 abbrev pub family : Piece → Piece

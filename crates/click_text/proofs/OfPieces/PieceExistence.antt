@@ -3,6 +3,7 @@ use Rattle.std.proofs.Common.{◌⊎◌, inl, inr, ◌≡◌, ℕ, zero, suc, �
 use Rattle.std.specs.Prelude.{codes, if◌then◌else◌, eqb}
 use Rattle.std.specs.List.{list_all}
 use Rattle.std.proofs.lemmas.Bool.{cases_Bool, cases_eq, cases_lt}
+use Rattle.click_base.specs.Numbers.{digit}
 use Rattle.click_text.specs.declared.lexer.Piece.{Piece}
 use Rattle.click_text.specs.declared.lexer.Piece.TheVariants as piece
 use Rattle.click_text.specs.declared.strings.Mode.TheVariants as mode
@@ -10,7 +11,7 @@ use Rattle.click_text.specs.declared.syntax.Token.{Token}
 use Rattle.click_text.specs.declared.syntax.Ending.{Ending}
 use Rattle.click_text.specs.declared.syntax.Ending.TheVariants as ending
 use Rattle.click_text.specs.Strings.{closes}
-use Rattle.click_text.specs.Pieces.{white, digit, name_byte, is_word, ends_comment, IsRun, IsPiece, Longest, token_of, span, piece_fault, Reads, ends, passes, takes, stuck}
+use Rattle.click_text.specs.Pieces.{white, name_byte, is_word, ends_comment, IsRun, IsPiece, Longest, token_of, span, piece_fault, Reads, ends, passes, takes, stuck}
 use Rattle.click_text.proofs.OfPieces.FirstBytes.{begins_as}
 
 abbrev Decided : Type 0 → Type 0

@@ -1,14 +1,14 @@
 use Rattle.std.proofs.Common.{◌≡◌, ℕ, List, length, Result, rules, refl, sym, ap, ◌∙◌}
 use Rattle.std.proofs.lemmas.Bool.{eqb-true}
+use Rattle.click_base.specs.Numbers.{decimal_number}
+use Rattle.click_base.specs.declared.numbers.NumberFault.{NumberFault}
 use Rattle.click_control.specs.Commands.{first_word, second_word, third_word, parse_data}
-use Rattle.click_classes.specs.Values.{decimal_number}
-use Rattle.click_classes.specs.declared.fault.ArgFault.{ArgFault}
 use Rattle.click_router.specs.declared.check.Access.{Access}
 use Rattle.click_control.proofs.LineMeanings.{announced_by, parse_data-two}
 use Rattle.click_control.proofs.parsed.parse_data.Goals as goal
 
 -- the meaning of the words, if there is no third one
-words : (w : Access) (rest first second third : List ℕ) (n : Result ℕ ArgFault) → first ≡ first_word rest → second ≡ second_word rest → third ≡ third_word rest
+words : (w : Access) (rest first second third : List ℕ) (n : Result ℕ NumberFault) → first ≡ first_word rest → second ≡ second_word rest → third ≡ third_word rest
     → length third ≡ 0 → n ≡ decimal_number 0 1048576 second
     → announced_by w first n ≡ parse_data w (first_word rest) (second_word rest) (third_word rest)
 words w rest first second third n e f g none is =

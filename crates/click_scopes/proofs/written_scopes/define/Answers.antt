@@ -1,7 +1,7 @@
 use Rattle.std.proofs.Common.{◌≡◌, ◌∷◌, None, Some, length, sym, subst, rules}
 use Rattle.std.proofs.lemmas.List.{append-nil}
 use Rattle.click_scopes.specs.kept.Tables.{Shows}
-use Rattle.click_scopes.proofs.OfLists.StatementTables.{defined}
+use Rattle.click_scopes.proofs.OfLists.StatementTables.{defined, undefined}
 use Rattle.click_scopes.proofs.written_scopes.define.Goals as goal
 
 pub returns-in_ok-push-in-Some-clause-shows : goal.returns-in_ok-push-in-Some-clause-shows
@@ -28,3 +28,8 @@ returns-in-None-clause-adds c = λ visible h.
       is = c.in-None.ensures visible (subst (λ x. Shows c.args.text.now x c.args.visible_class visible) (sym c.as_slice.ensures.value) h);
       added = sym (append-nil c.args.class_table.now.items);
     }
+
+pub returns-in-None-clause-shows : goal.returns-in-None-clause-shows
+returns-in-None-clause-shows c = λ visible h.
+    undefined c.args.text.now c.args.class_table.now.items c.args.visible_class visible c.args.statement.now
+    (c.in-None.ensures visible (subst (λ x. Shows c.args.text.now x c.args.visible_class visible) (sym c.as_slice.ensures.value) h)) h

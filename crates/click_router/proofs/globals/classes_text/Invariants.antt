@@ -1,7 +1,0 @@
-use Rattle.std.proofs.Common.{◌≡◌, take}
-use Rattle.click_base.specs.Classes.{name}
-use Rattle.click_router.specs.Globals.{lines_of}
-use Rattle.click_router.proofs.globals.classes_text.Given as goal
-
-abbrev pub invariant-loop-class : goal.invariant-loop-class
-invariant-loop-class l = l.text.items ≡ lines_of name (take l.class-index l.classes)
