@@ -86,6 +86,7 @@ SCRIPTS = (
     Part("tutorial", "the commands of docs/TUTORIAL.md print what it shows", "tools/tutorial.py", (PROG,)),
     Part("sessions", "concurrent sessions over TCP get replies that one thread could get", "tools/sessions.sh", (PROG,), ("7777",)),
     Part("gateway", "the router connects two Linux networks", "examples/gateway/run.sh", (PROG,)),
+    Part("ethernet", "the router answers ARP and ICMP between two Ethernets with Linux hosts", "examples/ethernet/run.sh", (PROG,)),
     Part("page", "the page answers, shows and controls a running router", "tools/page.py", (PROG,)),
     Part("alloc_swaps", "each allocation of a session with swaps is refused in turn", "tools/alloc_failures.py swaps", (PROG,)),
     Part("alloc_drivers", "each allocation of a session with drivers is refused in turn", "tools/alloc_failures.py drivers", (PROG,)),

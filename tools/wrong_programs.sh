@@ -212,6 +212,14 @@ sessions_wrong() { case_wrong tools/sessions.sh "$@"; }
 hostile_wrong() { case_wrong tools/hostile.sh "$@"; }
 links_wrong() { case_wrong tools/udp_links.py "$@"; }
 gateway_wrong() { case_wrong examples/gateway/run.sh '' "$@"; }
+# ethernet_wrong WHAT MESSAGE LINE..: the message has to name the check, because a configuration that
+# does not start is refused too.
+ethernet_wrong() {
+    local what=$1 message=$2
+    shift 2
+    case_wrong examples/ethernet/run.sh '' "$what" "$@"
+    if ! grep -q -e "$message" "$work/err"; then fail "a program with $what: wanted a message with: $message" "$(shown "$work/err")"; fi
+}
 
 # exchanged FROM TO: prints lines that start the program with one argument replaced.
 exchanged() { printf 'for word; do shift; if [ "$word" = %s ]; then word=%s; fi; set -- "$@" "$word"; done\nexec "$program" "$@"\n' "$1" "$2"; }
@@ -366,6 +374,29 @@ network() {
     else
         echo 'left out: the gateway'
     fi
+    if [ "$(examples/ethernet/run.sh | tail -n 1)" = passed ]; then wrong_ethernets; else echo 'left out: the Ethernets'; fi
+}
+
+# wrong_ethernets: a change of the router's configuration, its packets or its counts for each kind of
+# check. In a change, `\$` is a `$` of the configuration.
+wrong_ethernets() {
+    ethernet_wrong 'another Ethernet address in its ARP replies' 'the first ping of the router by left' "$(reworded 'ARPResponder(\$ip \$ether)' 'ARPResponder(\$ip 2:0:0:0:0:9)')"
+    ethernet_wrong 'another Ethernet address in its queries' 'the first ping of the router by left' "$(reworded 'ARPQuerier(\$ip, \$ether)' 'ARPQuerier(\$ip, 2:0:0:0:0:9)')"
+    ethernet_wrong 'ARP replies that it ignores' 'the first ping of the router by left' "$(reworded 'kind \[1\] -> \[1\] arp' 'kind [1] -> Discard')"
+    ethernet_wrong 'ARP replies for its neighbours' 'answers an ARP request for a neighbour' "$(reworded 'ARPResponder(\$ip ' 'ARPResponder(\$ip\/16 ')"
+    ethernet_wrong 'a time to live that it does not decrement' 'a ping of right by left' "$(reworded ' ttl :: DecIPTTL' ' ttl :: CheckLength(1600)')"
+    ethernet_wrong 'reports from another address' 'traceroute from left, the first hop' "$(reworded 'ICMPError(\$ip, timeexceeded)' 'ICMPError(10.9.9.9, timeexceeded)')"
+    ethernet_wrong 'another code in a report' 'a protocol of the router' "$(reworded 'unreachable, 2)' 'unreachable, 3)')"
+    ethernet_wrong 'redirects to strangers' 'two datagrams that get no redirect' "$(reworded 'Classifier(0\/45 12\/\$net)' 'Classifier(-)')"
+    ethernet_wrong 'no MTU in its reports' 'the path MTU of right' "$(reworded 'unreachable, 4, 1500' 'unreachable, 4')"
+    ethernet_wrong 'reports about long datagrams from another address' 'a datagram of 1586 bytes' "$(reworded 'ICMPError(\$ip, unreachable, 4' 'ICMPError(10.9.9.9, unreachable, 4')"
+    ethernet_wrong 'reports about broadcast frames' 'what answers a broadcast frame' "$(reworded '12\/0800 0\/\$digits' '12\/0800')"
+    ethernet_wrong 'reports to a broadcast address' 'addresses that the router asked for' "$(reworded 'CheckIPHeader(10\.1\.0\.0 ' 'CheckIPHeader(')"
+    ethernet_wrong 'announcements that it ignores' 'after its announcement' "$(reworded 'both \[1\] -> \[1\] arp' 'both [1] -> Discard')"
+    ethernet_wrong 'a table that a swap loses' 'asked for after a swap' "$(reworded '\barp\b' asks)"
+    ethernet_wrong 'a packet in a thousand that is lost' wanted "$(relayed loses)"
+    ethernet_wrong 'datagrams that it does not count' 'right/datagrams.count' "$(reworded 'datagrams :: Counter' 'datagrams :: Null')"
+    ethernet_wrong 'more in its counts than entered' 'the counts of the links' "$(retold 's/entered /&1/')"
 }
 
 # --- Test scripts. ---
@@ -546,7 +577,7 @@ wrong_page_text() {
 # BUILDS is `nothing`.
 gate_tree() {
     local file made
-    mkdir -p "$work/gate/tools/lib" "$work/gate/examples/gateway" "$work/gate/crates"
+    mkdir -p "$work/gate/tools/lib" "$work/gate/examples/gateway" "$work/gate/examples/ethernet" "$work/gate/crates"
     cp test.sh "$work/gate"
     cp tools/gate.py "$work/gate/tools"
     cp tools/lib/running.py tools/lib/programs.py "$work/gate/tools/lib"
