@@ -546,6 +546,16 @@ def flooded(link, packet, seconds, sender=None):
     return count
 
 
+def settled(counted):
+    """Returns a count when it has not changed for a second, as on a machine with other work."""
+    count, since = counted(), time.monotonic()
+    while time.monotonic() - since < 1:
+        time.sleep(0.1)
+        if count != (count := counted()):
+            since = time.monotonic()
+    return count
+
+
 def slow_text(places=10, sink="b"):
     """Returns a configuration that copies each packet some four thousand times, and stores it in a
     queue of this capacity before a device.
@@ -580,10 +590,7 @@ def flood():
         finally:
             is_over.set()
             asking.join()
-        counted = lambda: int(router.session.read(b"c.count"))
-        before = -1
-        while before != (before := counted()):
-            time.sleep(0.1)
+        before = settled(lambda: int(router.session.read(b"c.count")))
         lost = lost_at(a.here)
         with_all = sum(known) + strange
         if sum(known) < 10 * before:
