@@ -10,9 +10,7 @@ what was expected and what came, and ends the script with status 1.
 from __future__ import annotations
 
 import contextlib
-import ctypes
 import errno
-import fcntl
 import os
 import signal
 import socket
@@ -23,11 +21,12 @@ import sys
 import tempfile
 import threading
 import time
-from typing import Callable, Iterator, NamedTuple, NoReturn, TypeVar
+from typing import Callable, NamedTuple, NoReturn, TypeVar
 
 sys.dont_write_bytecode = True
 TOOLS = f"{os.path.dirname(os.path.realpath(__file__))}/../../tools"
 sys.path[1:1] = [TOOLS, f"{TOOLS}/lib"]
+from linux_host import SECONDS, TAP, LinuxHost
 from packets import (
     BROADCAST,
     ECHO_REPLY,
@@ -70,8 +69,6 @@ from trying import begun, fail
 
 Found = TypeVar("Found")
 
-# The maximum number of seconds until something that is expected has come.
-SECONDS = int(os.environ.get("SECONDS_TO_WAIT", "10"))
 # The maximum number of seconds until the router is ready.
 START_SECONDS = 20
 # The control port of the router. It is in a namespace of its own, like the ports of the links.
@@ -101,9 +98,7 @@ MAX_MEDIAN = 0.5
 # The number of bytes that are fetched over TCP.
 FETCHED = 1_000_000
 # Constants of Linux that Python does not name.
-CLONE_NEWNET, TUNSETIFF, IFF_TAP, IFF_NO_PI = 0x40000000, 0x400454CA, 2, 0x1000
 IP_MTU_DISCOVER, IP_RECVERR, IP_MTU, PMTUDISC_WANT, PMTUDISC_DO = 10, 11, 14, 1, 2
-LIBC = ctypes.CDLL(None, use_errno=True)
 
 
 def said(text: str) -> None:
@@ -145,39 +140,28 @@ def station(ether_text: str, ip_text: str) -> Station:
     return Station(ether(ether_text), ip(ip_text))
 
 
-class Host:
-    """A Linux host: a network namespace with a TAP device, which is connected to a link of the router.
+class Host(LinuxHost):
+    """A Linux host with a TAP device, which is connected to a link of the router.
 
     `frames` has the frames that the host sent or got, in order.
     """
 
     def __init__(self, name: str, own: Station, router: Station, here: int, there: int):
-        self.name, self.own, self.router, self.here, self.there = name, own, router, here, there
+        super().__init__(name, TAP, ("127.0.0.1", there), ("127.0.0.1", here))
+        self.own, self.router, self.here, self.there = own, router, here, there
         self.frames: list[Frame] = []
         self.changed = threading.Condition()
         self.ever = Watch(self)
-        self.home, self.space = os.open("/proc/self/ns/net", os.O_RDONLY), -1
-        self.tap = os.open("/dev/net/tun", os.O_RDWR)
-        fcntl.ioctl(self.tap, TUNSETIFF, struct.pack("16sH22x", name.encode(), IFF_TAP | IFF_NO_PI))
-        self.link = socket.socket(socket.AF_INET, socket.SOCK_DGRAM)
-        self.link.setsockopt(socket.SOL_SOCKET, socket.SO_RCVBUF, 1 << 22)
-        self.link.bind(("127.0.0.1", there))
-        self.link.connect(("127.0.0.1", here))
         self.start()
-        for work in (self.carry_out, self.carry_in):
-            threading.Thread(target=work, daemon=True).start()
+        self.carry_all()
         # A socket that sends datagrams with their headers, and one that sends frames.
         self.raw = self.open(socket.AF_INET, socket.SOCK_RAW, socket.IPPROTO_RAW)
         self.wire = self.open(socket.AF_PACKET, socket.SOCK_RAW, 0)
         self.wire.bind((name, 0))
 
     def start(self) -> None:
-        """Moves the device into a new namespace, and gives it its addresses and a default route."""
+        """Gives the device its addresses and a default route."""
         address, gateway = socket.inet_ntoa(self.own.ip), socket.inet_ntoa(self.router.ip)
-        run("ip", "netns", "add", self.name)
-        run("ip", "link", "set", self.name, "netns", self.name)
-        self.space = os.open(f"/run/netns/{self.name}", os.O_RDONLY)
-        self.set_parameter("ipv6/conf/all/disable_ipv6", 1)
         self.set_parameter("ipv4/conf/all/arp_notify", 0)
         # On a slow machine the kernel must not ask again, so that the frames are the same each time.
         self.set_parameter(f"ipv4/neigh/{self.name}/retrans_time_ms", 1000 * SECONDS)
@@ -188,46 +172,12 @@ class Host:
         self.configure("link", "set", self.name, "up")
         self.configure("route", "add", "default", "via", gateway)
 
-    def configure(self, *words: str) -> None:
-        run("ip", "-n", self.name, *words)
-
-    def set_parameter(self, name: str, value: int) -> None:
-        """Sets a parameter of the host's kernel. One that this kernel does not have is left out."""
-        with self.inside(), contextlib.suppress(FileNotFoundError), open(f"/proc/sys/net/{name}", "w", encoding="ascii") as it:
-            it.write(str(value))
-
-    @contextlib.contextmanager
-    def inside(self) -> Iterator[None]:
-        """Lets this thread act in the host's namespace: a socket that it opens there stays there."""
-        enter(self.space)
-        try:
-            yield
-        finally:
-            enter(self.home)
-
-    def open(self, *kinds: int) -> socket.socket:
-        with self.inside():
-            it = socket.socket(*kinds)
-        it.settimeout(SECONDS)
-        return it
-
-    def carry_out(self) -> None:
-        """Carries the frames that the host sends to the link of the router."""
-        while True:
-            self.carry(True, os.read(self.tap, 2048), self.link.send)
-
-    def carry_in(self) -> None:
-        """Carries the packets of the link to the host."""
-        while True:
-            self.carry(False, self.link.recv(2048), lambda data: os.write(self.tap, data))
-
     def carry(self, is_sent: bool, data: bytes, to: Callable[[bytes], int]) -> None:
         """Records a frame and carries it on. One that is lost is seen in the counts of the link."""
         with self.changed:
             self.frames.append(Frame(is_sent, data))
             self.changed.notify_all()
-        with contextlib.suppress(OSError):
-            to(data)
+        super().carry(is_sent, data, to)
 
     def send(self, datagram: bytes) -> None:
         """Sends a datagram with its header; the host's kernel routes it and does ARP."""
@@ -353,19 +303,6 @@ class Router:
         self.session.quit()
         self.process.terminate()
         same(-signal.SIGTERM, self.process.wait(SECONDS), "the status of the router that SIGTERM ends")
-
-
-def run(*words: str) -> None:
-    """Runs a command, which has to succeed."""
-    did = subprocess.run(words, stdout=subprocess.PIPE, stderr=subprocess.STDOUT, check=False)
-    if did.returncode:
-        fail(f"status {did.returncode} of: {' '.join(words)}", did.stdout.decode().strip())
-
-
-def enter(space: int) -> None:
-    """Moves this thread into a network namespace."""
-    if LIBC.setns(space, CLONE_NEWNET):
-        raise OSError(ctypes.get_errno(), "setns")
 
 
 def ping(one: Host, to: bytes, number: int, data: bytes = b"") -> bytes:

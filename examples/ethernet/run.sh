@@ -25,23 +25,12 @@ elif [ $# -gt 0 ]; then
     exit 2
 fi
 . "$here/../../tools/lib/checking.sh"
-
-# left_out WHY: prints what is missing and exits with status 0.
-left_out() {
-    echo "left out: $1"
-    exit 0
-}
+. "$here/../../tools/lib/namespaces.sh"
 
 is_built "$program"
-for needed in unshare ip python3; do
-    if ! command -v $needed > /dev/null; then left_out "there is no $needed"; fi
-done
-if ! [ -c /dev/net/tun ] || ! [ -r /dev/net/tun ] || ! [ -w /dev/net/tun ]; then left_out '/dev/net/tun cannot be opened'; fi
-own=(unshare --net --mount --pid --fork --kill-child --mount-proc)
-if [ "$(id -u)" != 0 ]; then own+=(--user --map-root-user); fi
-if ! "${own[@]}" ip tuntap add dev probe mode tap 2> /dev/null; then left_out 'in a namespace of its own no TAP device can be made'; fi
-if ! "${own[@]}" sh -c 'echo 1 > /proc/sys/net/ipv4/ip_forward' 2> /dev/null; then left_out 'in a namespace of its own no parameter of the kernel can be set'; fi
+needs tap python3
+needs_parameters
 status=0
-PROGRAM=$(readlink -f "$program") timeout $most_seconds "${own[@]}" "$self" inside || status=$?
+PROGRAM=$(readlink -f "$program") timeout $most_seconds "${namespaces[@]}" --net "$self" inside || status=$?
 if [ $status = 124 ]; then fail "not done after $most_seconds s"; fi
 exit $status

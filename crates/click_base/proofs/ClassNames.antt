@@ -44,6 +44,12 @@ by_name class.ARPResponder k = absurd (cc k)
 by_name class.ARPQuerier k = absurd (cc k)
 by_name class.ICMPError k = absurd (cc k)
 by_name class.ICMPPingResponder k = absurd (cc k)
+by_name class.HostEtherFilter k = absurd (cc k)
+by_name class.EtherMirror k = absurd (cc k)
+by_name class.IPMirror k = absurd (cc k)
+by_name class.SetIPChecksum k = absurd (cc k)
+by_name class.StripIPHeader k = absurd (cc k)
+by_name class.UDPIPEncap k = absurd (cc k)
 by_name _ k = refl
 
 pub gateway-by_name : (c : Class) → is_gateway c ≡ true → gateway_class_of (name c) ≡ Some c
@@ -52,6 +58,12 @@ gateway-by_name class.ARPResponder k = refl
 gateway-by_name class.ARPQuerier k = refl
 gateway-by_name class.ICMPError k = refl
 gateway-by_name class.ICMPPingResponder k = refl
+gateway-by_name class.HostEtherFilter k = refl
+gateway-by_name class.EtherMirror k = refl
+gateway-by_name class.IPMirror k = refl
+gateway-by_name class.SetIPChecksum k = refl
+gateway-by_name class.StripIPHeader k = refl
+gateway-by_name class.UDPIPEncap k = refl
 gateway-by_name _ k = absurd (cc k)
 
 pub named : (c : Class) (text : List ℕ) → is_gateway c ≡ false → name c ≡ text → class_of text ≡ Some c

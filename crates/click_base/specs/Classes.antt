@@ -13,9 +13,11 @@ classes =
     class.GetIPAddress ∷ class.StaticIPLookup ∷ class.CheckIPHeader ∷ class.DecIPTTL ∷ class.EtherEncap ∷ class.InfiniteSource ∷
     class.FromDevice ∷ class.ToDevice ∷ []
 
--- the four classes of the gateway package, which are visible only after `require(gateway);`
+-- the ten classes of the gateway package, which are visible only after `require(gateway);`
 abbrev pub gateway_classes : List Class
-gateway_classes = class.ARPResponder ∷ class.ARPQuerier ∷ class.ICMPError ∷ class.ICMPPingResponder ∷ []
+gateway_classes =
+    class.ARPResponder ∷ class.ARPQuerier ∷ class.ICMPError ∷ class.ICMPPingResponder ∷ class.HostEtherFilter ∷ class.EtherMirror ∷
+    class.IPMirror ∷ class.SetIPChecksum ∷ class.StripIPHeader ∷ class.UDPIPEncap ∷ []
 
 -- whether a class is of the gateway package
 abbrev pub is_gateway : Class → Bool
@@ -23,6 +25,12 @@ is_gateway class.ARPResponder = true
 is_gateway class.ARPQuerier = true
 is_gateway class.ICMPError = true
 is_gateway class.ICMPPingResponder = true
+is_gateway class.HostEtherFilter = true
+is_gateway class.EtherMirror = true
+is_gateway class.IPMirror = true
+is_gateway class.SetIPChecksum = true
+is_gateway class.StripIPHeader = true
+is_gateway class.UDPIPEncap = true
 is_gateway _ = false
 
 -- the name that stands for the class in configurations
@@ -61,6 +69,12 @@ name class.ARPResponder = codes "ARPResponder"
 name class.ARPQuerier = codes "ARPQuerier"
 name class.ICMPError = codes "ICMPError"
 name class.ICMPPingResponder = codes "ICMPPingResponder"
+name class.HostEtherFilter = codes "HostEtherFilter"
+name class.EtherMirror = codes "EtherMirror"
+name class.IPMirror = codes "IPMirror"
+name class.SetIPChecksum = codes "SetIPChecksum"
+name class.StripIPHeader = codes "StripIPHeader"
+name class.UDPIPEncap = codes "UDPIPEncap"
 
 -- the class with this name, if it is one of the thirty that are always visible
 unfoldable pub class_of : List ℕ → Option Class

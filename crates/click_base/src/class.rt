@@ -41,6 +41,12 @@ pub enum Class {
     ARPQuerier,
     ICMPError,
     ICMPPingResponder,
+    HostEtherFilter,
+    EtherMirror,
+    IPMirror,
+    SetIPChecksum,
+    StripIPHeader,
+    UDPIPEncap,
 }
 
 /// The thirty classes that are always visible, in the order of Click's element reference.
@@ -78,11 +84,17 @@ pub const CLASSES: [Class; 30] = [
 ];
 
 /// The classes of the gateway package. They are visible only after `require(gateway);`.
-pub const GATEWAY_CLASSES: [Class; 4] = [
+pub const GATEWAY_CLASSES: [Class; 10] = [
     Class::ARPResponder,
     Class::ARPQuerier,
     Class::ICMPError,
     Class::ICMPPingResponder,
+    Class::HostEtherFilter,
+    Class::EtherMirror,
+    Class::IPMirror,
+    Class::SetIPChecksum,
+    Class::StripIPHeader,
+    Class::UDPIPEncap,
 ];
 
 impl Class {
@@ -125,6 +137,12 @@ impl Class {
             Class::ARPQuerier => b"ARPQuerier",
             Class::ICMPError => b"ICMPError",
             Class::ICMPPingResponder => b"ICMPPingResponder",
+            Class::HostEtherFilter => b"HostEtherFilter",
+            Class::EtherMirror => b"EtherMirror",
+            Class::IPMirror => b"IPMirror",
+            Class::SetIPChecksum => b"SetIPChecksum",
+            Class::StripIPHeader => b"StripIPHeader",
+            Class::UDPIPEncap => b"UDPIPEncap",
         }
     }
 }

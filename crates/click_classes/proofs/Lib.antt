@@ -3,6 +3,7 @@ pub mod OfArguments
 pub mod OfNumbers
 pub mod OfPatterns
 pub mod OfPorts
+pub mod OfQueriers
 pub mod OfQueues
 pub mod OfRoutes
 pub mod OfStates

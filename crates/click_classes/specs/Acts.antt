@@ -6,7 +6,7 @@ use Rattle.click_packet.specs.Header.{header_good, ttl, with_ttl}
 use Rattle.click_packet.specs.Packet.{Packet}
 use Rattle.click_gateway.specs.Addresses.{is_host, ethernet_of_group}
 use Rattle.click_gateway.specs.Arp.{Sender, sender, request_for, ether_header}
-use Rattle.click_classes.specs.Gateway.{arp_reply, ping_reply, error_report}
+use Rattle.click_classes.specs.Gateway.{arp_reply, ping_reply, error_report, host_verdict, frame_mirror, datagram_mirror, checksum_set, header_stripped, udp_encapsulated}
 use Rattle.click_classes.specs.Matches.{matches}
 use Rattle.click_classes.specs.Neighbours.{Neighbour, most_neighbours, place_of}
 use Rattle.click_classes.specs.declared.neighbours.Querier.{Querier}
@@ -86,6 +86,12 @@ pass (state.EtherEncap header) p = encapsulated (state.EtherEncap header) header
 pass (state.ARPResponder stations) p = made_or (state.ARPResponder stations) (arp_reply stations p) p verdict.SideOutput
 pass (state.ICMPError r) p = made_or (state.ICMPError r) (error_report r p) p verdict.Dropped
 pass state.ICMPPingResponder p = made_or state.ICMPPingResponder (ping_reply p) p verdict.SideOutput
+pass (state.HostEtherFilter ether) p = passed (state.HostEtherFilter ether) p (host_verdict ether p)
+pass state.EtherMirror p = made_or state.EtherMirror (frame_mirror p) p verdict.Dropped
+pass state.IPMirror p = made_or state.IPMirror (datagram_mirror p) p verdict.Dropped
+pass state.SetIPChecksum p = made_or state.SetIPChecksum (checksum_set p) p verdict.Dropped
+pass state.StripIPHeader p = made_or state.StripIPHeader (header_stripped p) p verdict.Dropped
+pass (state.UDPIPEncap t) p = made_or (state.UDPIPEncap t) (udp_encapsulated t p) p verdict.Dropped
 -- no other class passes packets in this way; a packet that is pushed to an Idle or a Discard is
 -- dropped
 pass s p = passed s p verdict.Dropped
@@ -176,11 +182,15 @@ counting q = record q { packets = up_by q.packets 1 }
 abbrev pub dropping : Querier → Querier
 dropping q = record q { drops = up_by q.drops 1 }
 
+-- a packet that has an Ethernet header of 14 bytes before it is not too long
+abbrev pub has_header_room : Packet → Bool
+has_header_room p = nat_le (14 + length p.bytes) 1600
+
 -- a packet with the Ethernet header before it; a packet that is too long for that is dropped and
 -- counted
 abbrev pub sent_to : Querier → Packet → List ℕ → PushEffect
 sent_to q p to =
-    if nat_le (14 + length p.bytes) 1600 then sent (state.ARPQuerier q) (record p { bytes = ether_header to q.ether ++ p.bytes }) 0 1
+    if has_header_room p then sent (state.ARPQuerier q) (record p { bytes = ether_header to q.ether ++ p.bytes }) 0 1
     else to_none (state.ARPQuerier (dropping q)) p
 
 -- the ARP query for a packet's destination replaces the packet: to output 1 if there is one,
@@ -221,10 +231,17 @@ resolved outputs q p None =
     else to_none (state.ARPQuerier (dropping q)) p
 resolved outputs q p (Some place) = resolved_at outputs q p place (slice_get q.table place)
 
--- a packet at input 0: that for a group goes to the group's Ethernet address, all others by the table
+-- a packet for a group goes to the group's Ethernet address, all others by the table
 abbrev pub forwarded : ℕ → Querier → Packet → Option (List ℕ) → PushEffect
 forwarded outputs q p (Some group) = sent_to q p group
 forwarded outputs q p None = resolved outputs q p (place_of q.table p.destination)
+
+-- A packet at input 0. One that is too long for an Ethernet header is dropped and counted, before it
+-- could wait.
+abbrev pub taken_in : ℕ → Querier → Packet → PushEffect
+taken_in outputs q p =
+    if has_header_room p then forwarded outputs q p (ethernet_of_group p.destination)
+    else to_none (state.ARPQuerier (dropping q)) p
 
 -- the packet that waited leaves, if there is one
 abbrev pub let_go : Querier → Packet → List ℕ → Option Packet → PushEffect
@@ -259,7 +276,7 @@ act outputs (state.Suppressor active) input p = if is_active active input then s
 act outputs (state.Classifier patterns) input p = switched (state.Classifier patterns) (classified patterns p.bytes) p
 act outputs (state.StaticIPLookup entries) input p = routed (state.StaticIPLookup entries) (route entries p.destination) p
 act outputs (state.ARPQuerier q) input p =
-    if input == 0 then forwarded outputs (counting q) p (ethernet_of_group p.destination) else learnt q p (sender p.bytes)
+    if input == 0 then taken_in outputs (counting q) p else learnt q p (sender p.bytes)
 -- all other classes pass the packet or drop it
 act outputs s input p = pushed outputs (pass s p)
 
@@ -288,6 +305,12 @@ tries inputs (state.EtherEncap header) output = range 0 1
 tries inputs (state.ARPResponder stations) output = range 0 1
 tries inputs (state.ICMPError r) output = range 0 1
 tries inputs state.ICMPPingResponder output = range 0 1
+tries inputs (state.HostEtherFilter ether) output = range 0 1
+tries inputs state.EtherMirror output = range 0 1
+tries inputs state.IPMirror output = range 0 1
+tries inputs state.SetIPChecksum output = range 0 1
+tries inputs state.StripIPHeader output = range 0 1
+tries inputs (state.UDPIPEncap t) output = range 0 1
 -- a queue returns a packet that it has stored, and an Idle returns nothing; no other class has a
 -- pull output
 tries inputs s output = range 0 0

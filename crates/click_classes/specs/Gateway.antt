@@ -1,11 +1,17 @@
--- What ARPResponder, ICMPPingResponder and ICMPError make of a packet, if they make something of it.
-use Rattle.std.specs.Prelude.{ℕ, ◌/◌, ◌%◌, ◌==◌, ◌&&◌, List, [], ◌∷◌, find, Option, Some, None, option_map, if◌then◌else◌}
+-- What the classes of the gateway package make of a packet, if they make something of it; and where a
+-- HostEtherFilter sends it.
+use Rattle.std.specs.Prelude.{ℕ, ◌+◌, ◌/◌, ◌%◌, ◌==◌, nat_le, ◌&&◌, List, [], ◌∷◌, length, find, Option, Some, None, is_some, if◌then◌else◌}
 use Rattle.std.specs.List.{list_any}
-use Rattle.click_packet.specs.Header.{source}
+use Rattle.click_packet.specs.Header.{source, header_len}
 use Rattle.click_packet.specs.Packet.{Packet}
 use Rattle.click_gateway.specs.Arp.{requested, reply_to}
 use Rattle.click_gateway.specs.Icmp.{is_echo_request, echo_reply, may_report, report_of}
+use Rattle.click_gateway.specs.Mirrors.{is_frame, is_for, is_for_group, mirrored_frame, mirrored, with_checksum, without_header}
+use Rattle.click_gateway.specs.Udp.{udp_datagram}
+use Rattle.click_gateway.specs.declared.udp.Tunnel.{Tunnel}
 use Rattle.click_classes.specs.Routes.{covers}
+use Rattle.click_classes.specs.declared.packet_effects.Verdict.{Verdict}
+use Rattle.click_classes.specs.declared.packet_effects.Verdict.TheVariants as verdict
 use Rattle.click_classes.specs.declared.values.report.Report.{Report}
 use Rattle.click_classes.specs.declared.values.station.Station.{Station}
 
@@ -45,3 +51,34 @@ further r p =
 abbrev pub error_report : Report → Packet → Option Packet
 error_report r p =
     if may_report p.bytes then Some (record p { bytes = report_of r.own r.kind r.code (further r p) p.bytes; destination = source p.bytes }) else None
+
+-- HostEtherFilter: where a packet goes. A frame for this station goes on, one for a group goes to the
+-- side output, and every other packet is dropped.
+abbrev pub host_verdict : List ℕ → Packet → Verdict
+host_verdict ether p = if is_for ether p.bytes then verdict.Forward else if is_for_group p.bytes then verdict.SideOutput else verdict.Dropped
+
+-- EtherMirror: the frame with its two addresses exchanged
+abbrev pub frame_mirror : Packet → Option Packet
+frame_mirror p = if is_frame p.bytes then Some (record p { bytes = mirrored_frame p.bytes }) else None
+
+-- IPMirror: the datagram with its addresses exchanged, and its ports if it has them. Its destination
+-- annotation is its new destination.
+abbrev pub datagram_mirror : Packet → Option Packet
+datagram_mirror p =
+    if is_some (header_len p.bytes) then Some (record p { bytes = mirrored p.bytes; destination = source p.bytes }) else None
+
+-- SetIPChecksum: the datagram with the right checksum in its header (RFC 791, section 3.1)
+abbrev pub checksum_set : Packet → Option Packet
+checksum_set p = if is_some (header_len p.bytes) then Some (record p { bytes = with_checksum p.bytes }) else None
+
+-- StripIPHeader: what follows the header
+abbrev pub header_stripped : Packet → Option Packet
+header_stripped p = if is_some (header_len p.bytes) then Some (record p { bytes = without_header p.bytes }) else None
+
+-- UDPIPEncap: the packet in a UDP datagram, if that has at most 1,600 bytes. Its destination
+-- annotation is the other end of the tunnel (RFC 768).
+abbrev pub udp_encapsulated : Tunnel → Packet → Option Packet
+udp_encapsulated t p =
+    if nat_le (28 + length p.bytes) 1600
+    then Some (record p { bytes = udp_datagram t.source t.source_port t.destination t.destination_port p.bytes; destination = t.destination })
+    else None

@@ -11,6 +11,7 @@ pub mod Neighbours
 pub mod PacketList
 pub mod Patterns
 pub mod Ports
+pub mod QuerierRuns
 pub mod Queues
 pub mod Routes
 pub mod Settings

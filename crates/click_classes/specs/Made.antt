@@ -196,6 +196,17 @@ icmp_error args = taking 2 4 args
     optional args 3 0 (number_in 0 65535) >>= λ mtu.
     Ok (state.ICMPError (record { own = own; kind = kind; code = code; mtu = mtu })))
 
+unfoldable pub host_ether_filter : List (List ℕ) → Result State ArgFault
+host_ether_filter args = taking 1 1 args (ethernet (argument_at args 0) >>= λ ether. Ok (state.HostEtherFilter ether))
+
+unfoldable pub udp_ip_encap : List (List ℕ) → Result State ArgFault
+udp_ip_encap args = taking 4 4 args
+    (address (argument_at args 0) >>= λ source.
+    number_in 0 65535 (argument_at args 1) >>= λ source_port.
+    address (argument_at args 2) >>= λ destination.
+    number_in 0 65535 (argument_at args 3) >>= λ destination_port.
+    Ok (state.UDPIPEncap (record { source = source; source_port = source_port; destination = destination; destination_port = destination_port })))
+
 -- the result is determined by the words of the arguments, whose number is tested first
 abbrev pub ByWords : ℕ → ℕ → (List (List (List ℕ)) → Result State ArgFault) → List (List ℕ) → Result State ArgFault → Type 0
 ByWords least most first args r = MatchBool (nat_le least (length args) && nat_le (length args) most)
@@ -249,6 +260,12 @@ IsFresh class.ARPResponder args r = ByWords 1 256 arp_responder args r
 IsFresh class.ARPQuerier args r = r ≡ arp_querier args
 IsFresh class.ICMPError args r = r ≡ icmp_error args
 IsFresh class.ICMPPingResponder args r = r ≡ without_arguments state.ICMPPingResponder args
+IsFresh class.HostEtherFilter args r = r ≡ host_ether_filter args
+IsFresh class.EtherMirror args r = r ≡ without_arguments state.EtherMirror args
+IsFresh class.IPMirror args r = r ≡ without_arguments state.IPMirror args
+IsFresh class.SetIPChecksum args r = r ≡ without_arguments state.SetIPChecksum args
+IsFresh class.StripIPHeader args r = r ≡ without_arguments state.StripIPHeader args
+IsFresh class.UDPIPEncap args r = r ≡ udp_ip_encap args
 
 -- the first state, or the first fault, of an element of this class with this configuration string
 pub record IsMade (class : Class) (text : List ℕ) (r : Result State ArgFault) : Type 0 where

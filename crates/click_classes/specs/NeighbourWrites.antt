@@ -1,7 +1,9 @@
 -- An ARPQuerier after an operator wrote its table. A packet that waits for a neighbour that is
 -- removed or overwritten counts as dropped.
-use Rattle.std.specs.Prelude.{ℕ, ◌-◌, Bool, false, not, nat_lt, List, [], ◌∷◌, ◌++◌, length, filter, slice_get, slice_set, is_some, Option, Some, None, option_map, if◌then◌else◌}
+use Rattle.std.specs.Prelude.{ℕ, ◌-◌, Bool, false, not, ◌&&◌, nat_lt, List, [], ◌∷◌, ◌++◌, length, filter, slice_get, slice_set, is_some, Option, Some, None, option_map, if◌then◌else◌}
 use Rattle.std.specs.Str.{bytes_eq}
+use Rattle.click_gateway.specs.Addresses.{is_host}
+use Rattle.click_gateway.specs.Arp.{is_station}
 use Rattle.click_classes.specs.Acts.{up_by}
 use Rattle.click_classes.specs.Neighbours.{Neighbour, most_neighbours, place_of, waiting_in}
 use Rattle.click_classes.specs.declared.neighbours.Querier.{Querier}
@@ -34,6 +36,12 @@ inserted_at q address ether (Some place) =
       drops = if is_some n.waiting then up_by q.drops 1 else q.drops;
     }) (slice_get q.table place)
 
--- the querier in which an address has an Ethernet address, if the table has room for it
+-- Whether an operator may write these addresses: an IP address that can be one host's, and the
+-- Ethernet address of one station (RFC 1812, section 3.3.2). That is not zero and not a group's.
+abbrev pub can_be_known : List ℕ → List ℕ → Bool
+can_be_known address ether = is_host address && is_station ether && not (bytes_eq ether (0 ∷ 0 ∷ 0 ∷ 0 ∷ 0 ∷ 0 ∷ []))
+
+-- the querier in which an address has an Ethernet address, if they may be written and the table has
+-- room for them
 abbrev pub inserted : List ℕ → List ℕ → Querier → Option Querier
-inserted address ether q = inserted_at q address ether (place_of q.table address)
+inserted address ether q = if can_be_known address ether then inserted_at q address ether (place_of q.table address) else None

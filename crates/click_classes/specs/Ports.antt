@@ -53,6 +53,12 @@ codes_of class.ARPResponder = row Agnostic Agnostic Push
 codes_of class.ARPQuerier = row Push Push Push
 codes_of class.ICMPError = row Agnostic Agnostic Agnostic
 codes_of class.ICMPPingResponder = row Agnostic Agnostic Push
+codes_of class.HostEtherFilter = row Agnostic Agnostic Push
+codes_of class.EtherMirror = row Agnostic Agnostic Agnostic
+codes_of class.IPMirror = row Agnostic Agnostic Agnostic
+codes_of class.SetIPChecksum = row Agnostic Agnostic Agnostic
+codes_of class.StripIPHeader = row Agnostic Agnostic Agnostic
+codes_of class.UDPIPEncap = row Agnostic Agnostic Agnostic
 
 -- the code of a port
 abbrev pub code : Class → Side → ℕ → Code
@@ -120,3 +126,9 @@ counts (state.ARPResponder stations) = ports 1 1 1 2
 counts (state.ARPQuerier q) = ports 2 2 1 2
 counts (state.ICMPError r) = ports 1 1 1 1
 counts state.ICMPPingResponder = ports 1 1 1 2
+counts (state.HostEtherFilter ether) = ports 1 1 1 2
+counts state.EtherMirror = ports 1 1 1 1
+counts state.IPMirror = ports 1 1 1 1
+counts state.SetIPChecksum = ports 1 1 1 1
+counts state.StripIPHeader = ports 1 1 1 1
+counts (state.UDPIPEncap t) = ports 1 1 1 1

@@ -11,6 +11,7 @@ pub mod address;
 pub mod classifier;
 pub mod devices;
 pub mod encap;
+pub mod frames;
 pub mod gateway;
 pub mod header;
 pub mod length;
@@ -23,11 +24,13 @@ pub mod schedulers;
 pub mod source;
 pub mod switches;
 pub mod tees;
+pub mod tunnels;
 
 use self::address::make_get_ip_address;
 use self::classifier::make_classifier;
 use self::devices::{make_from_device, make_to_device};
 use self::encap::make_ether_encap;
+use self::frames::{make_ether_mirror, make_host_ether_filter};
 use self::gateway::{make_arp_responder, make_icmp_error, make_icmp_ping_responder};
 use self::header::{make_check_ip_header, make_dec_ip_ttl};
 use self::length::{make_check_length, make_strip};
@@ -42,6 +45,9 @@ use self::schedulers::{make_prio_sched, make_round_robin_sched};
 use self::source::make_infinite_source;
 use self::switches::{make_pull_switch, make_round_robin_switch, make_suppressor, make_switch};
 use self::tees::{make_pull_tee, make_tee};
+use self::tunnels::{
+    make_ip_mirror, make_set_ip_checksum, make_strip_ip_header, make_udp_ip_encap,
+};
 use crate::arguments::Arguments;
 use crate::fault::ArgFault;
 use crate::state::State;
@@ -88,6 +94,12 @@ pub fn first_state(alloc: Global, class: Class, arguments: &Arguments) -> Result
         Class::ARPQuerier => make_arp_querier(alloc, arguments),
         Class::ICMPError => make_icmp_error(arguments),
         Class::ICMPPingResponder => make_icmp_ping_responder(arguments),
+        Class::HostEtherFilter => make_host_ether_filter(arguments),
+        Class::EtherMirror => make_ether_mirror(arguments),
+        Class::IPMirror => make_ip_mirror(arguments),
+        Class::SetIPChecksum => make_set_ip_checksum(arguments),
+        Class::StripIPHeader => make_strip_ip_header(arguments),
+        Class::UDPIPEncap => make_udp_ip_encap(arguments),
     }
 }
 

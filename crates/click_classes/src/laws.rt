@@ -1,6 +1,6 @@
 //! Theorems about the definitions.
 
-ghost use Rattle.std.specs.Prelude.{◌≡◌, ◌↔◌, ℕ, ◌+◌, ◌-◌, ◌^◌, ◌<◌, ◌≤◌, [], ◌∷◌, ◌++◌, List, length, take, max, Ok, Option, Some, None, codes, slice_get, true};
+ghost use Rattle.std.specs.Prelude.{◌≡◌, ◌↔◌, ℕ, ◌+◌, ◌-◌, ◌^◌, ◌<◌, ◌≤◌, [], ◌∷◌, ◌++◌, List, length, count_by, take, max, Ok, Option, Some, None, codes, slice_get, true};
 ghost use Rattle.click_base.specs.declared.class.Class.{Class};
 ghost use Rattle.click_classes.specs.declared.state.State.{State};
 ghost use Rattle.click_classes.specs.declared.values.entry.Entry.{Entry};
@@ -11,6 +11,9 @@ ghost use Rattle.click_packet.specs.Packet.{Packet};
 ghost use Rattle.click_classes.specs.Acts.{pass, act, tries, gives, stored, emission, Stored};
 ghost use Rattle.click_classes.specs.PacketList.{PacketList};
 ghost use Rattle.click_classes.specs.Queues.{Queued, queue_of, IsSound};
+ghost use Rattle.click_classes.specs.QuerierRuns.{QuerierEvent, HasEther, IsAccount, IsSoundQuerier, after_events, all_given, waiting_packets};
+ghost use Rattle.click_classes.specs.declared.neighbours.Querier.{Querier};
+ghost use Rattle.std.specs.Str.{bytes_eq};
 ghost use Rattle.click_classes.specs.Settings.{settings};
 ghost use Rattle.click_classes.specs.declared.packet_effects.Verdict.{Verdict};
 ghost use Rattle.click_base.specs.Classes.{classes, name, class_of};
@@ -158,6 +161,35 @@ pub fn taken_queues_lose_nothing()
     ensures { (outputs : ℕ) (s old : State) (q before : Queued) → class s ≡ class old → queue_of s ≡ Some q → queue_of old ≡ Some before
         → (t : Queued) × (queue_of (taken_over outputs s old) ≡ Some t) × (t.list ≡ record { packets = take q.list.capacity before.list.packets; capacity = q.list.capacity })
         × (length t.list.packets + t.drops ≡ length before.list.packets) × (t.highest ≡ length t.list.packets) }
+{}
+
+/// An ARPQuerier is sound from its first state on, whatever happens to it.
+pub fn queriers_stay_sound()
+    ensures made { (c : Class) (text : List ℕ) (q : Querier) → IsMade c text (Ok (State.ARPQuerier q)) → IsSoundQuerier q }
+    ensures kept { (outputs : ℕ) (q : Querier) (es : List QuerierEvent) → IsSoundQuerier q → IsSoundQuerier (after_events outputs q es).querier }
+{}
+
+/// Each packet that an ARPQuerier is given leaves once, or is dropped and counted once, or waits.
+///
+/// What leaves are these packets, each with the Ethernet header of its destination, and queries. If
+/// the Ethernet address of an address is known, no packet for that address waits: each has left, or
+/// was dropped and counted.
+pub fn queriers_account_for_each_packet()
+    ensures account { (outputs : ℕ) (q : Querier) (es : List QuerierEvent) → IsSoundQuerier q
+        → (sent : List Packet) × (dropped : List Packet) × IsAccount outputs q (all_given es) (after_events outputs q es) sent dropped }
+    ensures known { (outputs : ℕ) (q : Querier) (es : List QuerierEvent) (address ether : List ℕ) (sent dropped : List Packet) → IsSoundQuerier q
+        → IsAccount outputs q (all_given es) (after_events outputs q es) sent dropped → HasEther (after_events outputs q es).querier address ether
+        → let is_for = (λ (p : Packet). bytes_eq p.destination address) in
+        count_by is_for (waiting_packets q) + count_by is_for (all_given es) ≡ count_by is_for sent + count_by is_for dropped }
+    ensures one { (q : Querier) (address : List ℕ) → IsSoundQuerier q → count_by (λ (p : Packet). bytes_eq p.destination address) (waiting_packets q) ≤ 1 }
+{}
+
+/// An ARPQuerier that takes over in a hot swap keeps only its own IP address and Ethernet address.
+///
+/// The table, the packets that wait and both counts are those of the old one.
+pub fn taken_queriers_keep_their_own_addresses()
+    ensures { (outputs : ℕ) (q old : Querier) → taken_over outputs (State.ARPQuerier q) (State.ARPQuerier old)
+        ≡ State.ARPQuerier (record old { ip = q.ip; ether = q.ether }) }
 {}
 
 /// A Counter that takes over from a Counter continues from both its counts.

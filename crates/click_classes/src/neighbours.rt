@@ -6,8 +6,11 @@ ghost use Rattle.std.specs.Prelude.{◌≡◌, ◌≤◌, ◌<◌, ◌+◌, ◌&
 ghost use Rattle.std.specs.List.{count_by};
 ghost use Rattle.std.specs.Str.{bytes_eq};
 ghost use Rattle.click_classes.specs.Neighbours.{Neighbour, waiting_in};
+ghost use Rattle.click_classes.specs.NeighbourWrites.{can_be_known};
 ghost use Rattle.click_classes.specs.kept.KeepTests.{passes};
+ghost use Rattle.click_gateway.specs.Arp.{is_station};
 
+use click_gateway::is_host;
 use click_packet::Packet;
 use std::alloc::{AllocError, Global};
 use std::marker::Model;
@@ -402,6 +405,22 @@ fn add_copies(places: &mut Vec<Place>, others: &[Place])
     }
 }
 
+/// Returns whether an operator may write these addresses: an IP address that can be one host's, and
+/// the Ethernet address of one station.
+fn can_be_known(address: [u8; 4], ether: [u8; 6]) -> bool
+    ensures { result ≡ can_be_known address ether }
+{
+    is_host(address) && is_station(ether) && ether != [0, 0, 0, 0, 0, 0]
+}
+
+/// Returns whether the Ethernet address is that of one station: the low bit of its first byte is
+/// not set (IEEE 802.3).
+fn is_station(ether: [u8; 6]) -> bool
+    ensures { result ≡ is_station ether }
+{
+    ether[0] % 2 == 0
+}
+
 /// The state of an ARPQuerier: the addresses of its station, the table, the number of packets at
 /// input 0, and the number of dropped packets.
 #[derive(Drop)]
@@ -469,10 +488,13 @@ impl Querier {
     /// as a drop.
     ///
     /// A new address is appended. Returns false, and changes nothing, if the table has no room for
-    /// it.
+    /// it, or if these cannot be the addresses of one host.
     pub fn insert(&mut self, address: [u8; 4], ether: [u8; 6]) -> bool
         ensures { MatchOption (inserted address ether self.old) ((result ≡ false) × (self.new ≡ self.old)) (λ q. (result ≡ true) × (self.new ≡ q)) }
     {
+        if !can_be_known(address, ether) {
+            return false;
+        }
         match self.table.find(address) {
             Some(place) => {
                 self.insert_at(place, address, ether);

@@ -3,11 +3,14 @@
 //! The functions of each class are in its own file; this module dispatches to them.
 
 ghost use Rattle.std.specs.Prelude.{◌≡◌, ℕ, MatchOption, None, true, false, nat_lt, if◌then◌else◌};
+ghost use Rattle.click_base.specs.Classes.{is_gateway};
+ghost use Rattle.click_classes.specs.State.{class};
 ghost use Rattle.click_classes.specs.Acts.{after, range, side_output, pushed_to, copied_to, is_answer, is_active, pass, passed, act, sent, tries, stored, emission, burst_of, gives};
 
 use crate::classes::address::take_address;
 use crate::classes::classifier::classify;
 use crate::classes::encap::encapsulate;
+use crate::classes::frames::{host_verdict, turn_frame};
 use crate::classes::gateway::{answer_arp, answer_ping, report_error};
 use crate::classes::header::{age, header_verdict};
 use crate::classes::length::length_verdict;
@@ -16,6 +19,7 @@ use crate::classes::plain::count_packet;
 use crate::classes::querier::{forward, learn};
 use crate::classes::queues::{store, store_dropping_first};
 use crate::classes::source::has_next;
+use crate::classes::tunnels::{enter_tunnel, remove_header, seal_header, turn_datagram};
 use crate::packet_list::PacketList;
 use crate::state::State;
 use click_packet::Packet;
@@ -123,6 +127,61 @@ fn is_active(active: &[bool; 16], port: u16) -> bool
 }
 
 impl State {
+    /// Passes a packet through an element of the gateway package.
+    ///
+    /// perf: out of line, so that these classes cost the other ones no registers.
+    #[tactic(auto, unfolding(crate::specs::Acts::pass))]
+    #[cold]
+    #[inline(never)]
+    fn pass_gateway(&self, packet: &mut Packet) -> Verdict
+        ensures { is_gateway (class self.now) ≡ true → pass self.now packet.old ≡ passed self.now packet.new result }
+    {
+        match self {
+            State::ARPResponder { stations } => answer_arp(stations.as_slice(), packet),
+            State::ICMPError { report } => report_error(report, packet),
+            State::ICMPPingResponder => answer_ping(packet),
+            State::HostEtherFilter { ether } => host_verdict(*ether, packet),
+            State::EtherMirror => turn_frame(packet),
+            State::IPMirror => turn_datagram(packet),
+            State::SetIPChecksum => seal_header(packet),
+            State::StripIPHeader => remove_header(packet),
+            State::UDPIPEncap { tunnel } => enter_tunnel(tunnel, packet),
+            _ => Verdict::Dropped,
+        }
+    }
+
+    /// Pushes a packet into an input of an element of the gateway package. Returns the outputs that
+    /// get it.
+    ///
+    /// perf: out of line, so that these classes cost the other ones no registers.
+    #[tactic(auto, unfolding(crate::specs::Acts::act))]
+    #[cold]
+    #[inline(never)]
+    fn act_gateway(&mut self, outputs: &u16, input: u16, packet: &mut Packet) -> PortRange
+        ensures { is_gateway (class self.old) ≡ true
+            → act outputs.now self.old input packet.old ≡ record { state = self.new; packet = packet.new; outputs = result } }
+    {
+        match self {
+            State::ARPQuerier { querier } => {
+                if input == 0 {
+                    forward(querier, *outputs, packet)
+                } else {
+                    learn(querier, packet)
+                }
+            }
+            State::ARPResponder { .. }
+            | State::ICMPError { .. }
+            | State::ICMPPingResponder
+            | State::HostEtherFilter { .. }
+            | State::EtherMirror
+            | State::IPMirror
+            | State::SetIPChecksum
+            | State::StripIPHeader
+            | State::UDPIPEncap { .. } => pushed_to(outputs, self.pass_gateway(packet)),
+            _ => NONE,
+        }
+    }
+
     /// Passes a packet from an input to the outputs of the verdict that is returned.
     #[tactic(auto, unfolding(crate::specs::Acts::pass))]
     #[inline(always)]
@@ -158,9 +217,15 @@ impl State {
                     Verdict::Dropped
                 }
             }
-            State::ARPResponder { stations } => answer_arp(stations.as_slice(), packet),
-            State::ICMPError { report } => report_error(report, packet),
-            State::ICMPPingResponder => answer_ping(packet),
+            State::ARPResponder { .. }
+            | State::ICMPError { .. }
+            | State::ICMPPingResponder
+            | State::HostEtherFilter { .. }
+            | State::EtherMirror
+            | State::IPMirror
+            | State::SetIPChecksum
+            | State::StripIPHeader
+            | State::UDPIPEncap { .. } => self.pass_gateway(packet),
             State::Queue { .. }
             | State::FrontDropQueue { .. }
             | State::Unqueue
@@ -283,18 +348,16 @@ impl State {
                 }
                 None => NONE,
             },
-            State::ARPResponder { stations } => {
-                pushed_to(outputs, answer_arp(stations.as_slice(), packet))
-            }
-            State::ICMPError { report } => pushed_to(outputs, report_error(report, packet)),
-            State::ICMPPingResponder => pushed_to(outputs, answer_ping(packet)),
-            State::ARPQuerier { querier } => {
-                if input == 0 {
-                    forward(querier, *outputs, packet)
-                } else {
-                    learn(querier, packet)
-                }
-            }
+            State::ARPResponder { .. }
+            | State::ARPQuerier { .. }
+            | State::ICMPError { .. }
+            | State::ICMPPingResponder
+            | State::HostEtherFilter { .. }
+            | State::EtherMirror
+            | State::IPMirror
+            | State::SetIPChecksum
+            | State::StripIPHeader
+            | State::UDPIPEncap { .. } => self.act_gateway(outputs, input, packet),
             State::Unqueue
             | State::PullSwitch { .. }
             | State::RoundRobinSched { .. }
@@ -310,6 +373,7 @@ impl State {
 
     /// Returns the inputs that a pull at an output asks, in order, up to the first packet.
     #[tactic(auto, unfolding(crate::specs::Acts::tries))]
+    #[inline(always)]
     pub fn tries(&self, inputs: u16, output: u16) -> PortRange
         ensures { result ≡ tries inputs self.now output }
     {
@@ -347,7 +411,13 @@ impl State {
             | State::EtherEncap { .. }
             | State::ARPResponder { .. }
             | State::ICMPError { .. }
-            | State::ICMPPingResponder => PortRange { first: 0, count: 1 },
+            | State::ICMPPingResponder
+            | State::HostEtherFilter { .. }
+            | State::EtherMirror
+            | State::IPMirror
+            | State::SetIPChecksum
+            | State::StripIPHeader
+            | State::UDPIPEncap { .. } => PortRange { first: 0, count: 1 },
             State::Queue { .. }
             | State::FrontDropQueue { .. }
             | State::Unqueue
@@ -528,7 +598,13 @@ impl State {
             | State::ARPResponder { .. }
             | State::ARPQuerier { .. }
             | State::ICMPError { .. }
-            | State::ICMPPingResponder => {
+            | State::ICMPPingResponder
+            | State::HostEtherFilter { .. }
+            | State::EtherMirror
+            | State::IPMirror
+            | State::SetIPChecksum
+            | State::StripIPHeader
+            | State::UDPIPEncap { .. } => {
                 let verdict = self.pass(packet);
                 pulled(outputs, verdict)
             }

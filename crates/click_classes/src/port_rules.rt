@@ -47,7 +47,8 @@ fn codes_of(class: Class) -> Codes
         | Class::CheckIPHeader
         | Class::DecIPTTL
         | Class::ARPResponder
-        | Class::ICMPPingResponder => Codes {
+        | Class::ICMPPingResponder
+        | Class::HostEtherFilter => Codes {
             inputs: Code::Agnostic,
             output: Code::Agnostic,
             further: Code::Push,
@@ -63,7 +64,12 @@ fn codes_of(class: Class) -> Codes
         | Class::Strip
         | Class::GetIPAddress
         | Class::EtherEncap
-        | Class::ICMPError => same(Code::Agnostic, Code::Agnostic),
+        | Class::ICMPError
+        | Class::EtherMirror
+        | Class::IPMirror
+        | Class::SetIPChecksum
+        | Class::StripIPHeader
+        | Class::UDPIPEncap => same(Code::Agnostic, Code::Agnostic),
     }
 }
 
@@ -142,7 +148,8 @@ pub fn counts(state: &State) -> Counts
         | State::CheckIPHeader { .. }
         | State::DecIPTTL
         | State::ARPResponder { .. }
-        | State::ICMPPingResponder => ((1, 1), (1, 2)),
+        | State::ICMPPingResponder
+        | State::HostEtherFilter { .. } => ((1, 1), (1, 2)),
         State::ARPQuerier { .. } => ((2, 2), (1, 2)),
         State::Classifier { patterns } => {
             let outputs = patterns.len().min(65_535) as u16;

@@ -11,6 +11,7 @@ use crate::values::report::Report;
 use crate::values::station::Station;
 use click_base::Class;
 use click_base::sequence::Sequence;
+use click_gateway::Tunnel;
 
 /// The state of an element of each class: what its arguments and handlers set, and what packets
 /// change.
@@ -132,6 +133,17 @@ pub enum State {
         report: Report,
     },
     ICMPPingResponder,
+    /// The address of the station.
+    HostEtherFilter {
+        ether: [u8; 6],
+    },
+    EtherMirror,
+    IPMirror,
+    SetIPChecksum,
+    StripIPHeader,
+    UDPIPEncap {
+        tunnel: Tunnel,
+    },
 }
 
 impl State {
@@ -174,6 +186,12 @@ impl State {
             State::ARPQuerier { .. } => Class::ARPQuerier,
             State::ICMPError { .. } => Class::ICMPError,
             State::ICMPPingResponder => Class::ICMPPingResponder,
+            State::HostEtherFilter { .. } => Class::HostEtherFilter,
+            State::EtherMirror => Class::EtherMirror,
+            State::IPMirror => Class::IPMirror,
+            State::SetIPChecksum => Class::SetIPChecksum,
+            State::StripIPHeader => Class::StripIPHeader,
+            State::UDPIPEncap { .. } => Class::UDPIPEncap,
         }
     }
 }

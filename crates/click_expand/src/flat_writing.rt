@@ -41,8 +41,16 @@ fn is_gateway(class: Class) -> bool
     ensures { result ≡ is_gateway class }
 {
     match class {
-        Class::ARPResponder | Class::ARPQuerier | Class::ICMPError | Class::ICMPPingResponder =>
-            true,
+        Class::ARPResponder
+        | Class::ARPQuerier
+        | Class::ICMPError
+        | Class::ICMPPingResponder
+        | Class::HostEtherFilter
+        | Class::EtherMirror
+        | Class::IPMirror
+        | Class::SetIPChecksum
+        | Class::StripIPHeader
+        | Class::UDPIPEncap => true,
         _ => false,
     }
 }

@@ -6,14 +6,15 @@ use Rattle.click_packet.specs.Checksum.{sum_of_words, ones_sum}
 use Rattle.click_packet.specs.Header.{stated_len, total_len, source, header_good}
 use Rattle.click_packet.proofs.Headers.{good-lens}
 use Rattle.click_gateway.specs.Addresses.{is_host}
-use Rattle.click_gateway.specs.Icmp.{destination, carried, message, is_in_one_piece, is_echo_request, echo_reply}
-use Rattle.click_gateway.proofs.Datagrams.{Carries, datagram-carries}
+use Rattle.click_gateway.specs.Datagrams.{destination}
+use Rattle.click_gateway.specs.Icmp.{carried, message, is_in_one_piece, is_echo_request, echo_reply}
+use Rattle.click_gateway.proofs.Carries.{Carries, datagram-carries, icmp_fields}
 use Rattle.click_gateway.proofs.Messages.{message-len}
 
-pub echo_reply-carries : (bytes : List ℕ) → Carries (echo_reply bytes) (destination bytes) (source bytes) (message 0 0 (drop 4 (carried bytes)))
+pub echo_reply-carries : (bytes : List ℕ) → Carries (icmp_fields (get_or bytes 1 0) (get_or bytes 4 0) (get_or bytes 5 0)) (echo_reply bytes) (destination bytes) (source bytes) (message 0 0 (drop 4 (carried bytes)))
 unfolding echo_reply
 echo_reply-carries bytes =
-    datagram-carries (get_or bytes 1 0) (get_or bytes 4 0) (get_or bytes 5 0) (destination bytes) (source bytes) (message 0 0 (drop 4 (carried bytes))) refl refl
+    datagram-carries (icmp_fields (get_or bytes 1 0) (get_or bytes 4 0) (get_or bytes 5 0)) (destination bytes) (source bytes) (message 0 0 (drop 4 (carried bytes))) refl refl
 
 and-left : (a b : Bool) → (a && b) ≡ true → a ≡ true
 and-left true b h = refl

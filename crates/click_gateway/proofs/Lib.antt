@@ -1,6 +1,10 @@
 pub mod ArpFields
-pub mod Datagrams
+pub mod Carries
 pub mod Echoes
 pub mod Fronts
+pub mod HeaderLengths
 pub mod Messages
+pub mod Mirrored
 pub mod Reports
+pub mod Segments
+pub mod Twice

@@ -7,8 +7,9 @@ use Rattle.std.proofs.lemmas.List.Elements.{Decides-contains}
 use Rattle.click_packet.specs.Checksum.{sum_of_words, ones_sum}
 use Rattle.click_packet.specs.Header.{total_len, source, header_good}
 use Rattle.click_gateway.specs.Addresses.{is_host}
-use Rattle.click_gateway.specs.Icmp.{destination, carried, message, is_first_piece, is_error, may_report, report_of}
-use Rattle.click_gateway.proofs.Datagrams.{Carries, datagram-carries}
+use Rattle.click_gateway.specs.Datagrams.{destination}
+use Rattle.click_gateway.specs.Icmp.{carried, message, is_first_piece, is_error, may_report, report_of}
+use Rattle.click_gateway.proofs.Carries.{Carries, datagram-carries, icmp_fields}
 use Rattle.click_gateway.proofs.Messages.{message-kind, message-len, message-sums, message-after}
 
 -- the message of a report
@@ -16,10 +17,10 @@ abbrev pub report_message : ℕ → ℕ → List ℕ → List ℕ → List ℕ
 report_message kind code further bytes = message kind code (further ++ take (min (total_len bytes) 548) bytes)
 
 pub report-carries : (own further bytes : List ℕ) (kind code : ℕ) → length own ≡ 4 →
-    Carries (report_of own kind code further bytes) own (source bytes) (report_message kind code further bytes)
+    Carries (icmp_fields (192 + get_or bytes 1 0 % 32) 0 0) (report_of own kind code further bytes) own (source bytes) (report_message kind code further bytes)
 unfolding report_of
 report-carries own further bytes kind code n =
-    datagram-carries (192 + get_or bytes 1 0 % 32) 0 0 own (source bytes) (report_message kind code further bytes) n refl
+    datagram-carries (icmp_fields (192 + get_or bytes 1 0 % 32) 0 0) own (source bytes) (report_message kind code further bytes) n refl
 
 -- a number of the list is found there
 any_of : (kinds : List ℕ) (kind : ℕ) → Contains kinds kind → list_any (λ k. k == kind) kinds ≡ true

@@ -1,13 +1,11 @@
 -- ICMP messages in IP datagrams (RFC 792): the reply to an echo request, and the report of an error
 -- (RFC 1122, section 3.2.2; RFC 1812, section 4.3).
-use Rattle.std.specs.Prelude.{ℕ, ◌+◌, ◌-◌, ◌/◌, ◌%◌, ◌==◌, nat_le, min, Bool, not, ◌&&◌, ◌||◌, List, [], ◌∷◌, ◌++◌, length, take, drop, slice_index}
+use Rattle.std.specs.Prelude.{ℕ, ◌+◌, ◌-◌, ◌/◌, ◌%◌, ◌==◌, nat_le, min, Bool, not, ◌&&◌, ◌||◌, List, [], ◌∷◌, ◌++◌, take, drop, slice_index}
 use Rattle.std.specs.List.{list_any}
 use Rattle.click_packet.specs.Checksum.{sum_of_words, ones_sum}
-use Rattle.click_packet.specs.Header.{stated_len, total_len, source, with_ttl, header_good}
-use Rattle.click_gateway.specs.Addresses.{four, is_host}
-
-abbrev pub destination : List ℕ → List ℕ
-destination bytes = four 16 bytes
+use Rattle.click_packet.specs.Header.{stated_len, total_len, source, header_good}
+use Rattle.click_gateway.specs.Addresses.{is_host}
+use Rattle.click_gateway.specs.Datagrams.{destination, datagram_of}
 
 -- what a datagram carries after its header, without the bytes of the frame after the datagram
 abbrev pub carried : List ℕ → List ℕ
@@ -21,12 +19,11 @@ unfoldable pub message : ℕ → ℕ → List ℕ → List ℕ
 message kind code rest =
     let sum = 65535 - ones_sum (sum_of_words (kind ∷ code ∷ 0 ∷ 0 ∷ rest)) in kind ∷ code ∷ (sum / 256) ∷ (sum % 256) ∷ rest
 
--- A datagram of protocol ICMP that is not fragmented. Its header has no options, a time to live of
--- 64 and the right checksum (RFC 791, section 3.1; RFC 1812, section 4.2.2.9).
-unfoldable pub datagram : ℕ → ℕ → ℕ → List ℕ → List ℕ → List ℕ → List ℕ
+-- A datagram of protocol ICMP that is not fragmented, with a time to live of 64 (RFC 1812, section
+-- 4.2.2.9).
+abbrev pub datagram : ℕ → ℕ → ℕ → List ℕ → List ℕ → List ℕ → List ℕ
 datagram service id_high id_low source destination message =
-    let total = length message + 20 in
-    with_ttl (69 ∷ service ∷ (total / 256) ∷ (total % 256) ∷ id_high ∷ id_low ∷ 0 ∷ 0 ∷ 0 ∷ 1 ∷ 0 ∷ 0 ∷ (source ++ (destination ++ message))) 64
+    datagram_of (record { protocol = 1; service = service; id_high = id_high; id_low = id_low; flags = 0; hops = 64 }) source destination message
 
 -- ---- echo
 

@@ -1,10 +1,11 @@
 //! ICMP messages in IP datagrams (RFC 792).
 ghost use Rattle.std.specs.Prelude.{◌≡◌, ℕ, ◌+◌, ◌-◌, ◌≤◌, ◌∷◌, ◌++◌, [], length, take, drop, min, true, false, if◌then◌else◌, slice_index};
 ghost use Rattle.click_gateway.specs.Addresses.{four, is_host};
-ghost use Rattle.click_gateway.specs.Icmp.{destination, carried, message, datagram, is_in_one_piece, is_first_piece, is_echo_request, echo_reply, is_error, may_report, report_of};
+ghost use Rattle.click_gateway.specs.Icmp.{carried, message, is_in_one_piece, is_first_piece, is_echo_request, echo_reply, is_error, may_report, report_of};
 ghost use Rattle.click_packet.specs.Header.{source, stated_len, total_len, header_good};
 
 use crate::addresses::{four, is_host};
+use crate::datagrams::{Fields, send_as};
 use click_packet::{Extent, Packet};
 
 /// Overwrites the first four bytes with the type, the code and the checksum of an ICMP message.
@@ -16,56 +17,6 @@ fn seal(packet: &mut Packet, kind: u8, code: u8)
     packet.write(0, &[kind, code, 0, 0]);
     let sum = 65535 - packet.ones_sum(0, packet.bytes().len());
     packet.write(2, &[(sum / 256) as u8, (sum % 256) as u8]);
-}
-
-/// The fields of an IP header that differ between messages.
-#[derive(Clone, Copy)]
-struct Fields {
-    service: u8,
-    id: [u8; 2],
-    source: [u8; 4],
-    destination: [u8; 4],
-}
-
-/// Inserts an IP header without options before a message, and sets the destination annotation.
-fn send_as(packet: &mut Packet, fields: &Fields)
-    requires { length packet.old.bytes ≤ 1580 }
-    ensures { packet.new ≡ record packet.old {
-      bytes = datagram fields.now.service (slice_index fields.now.id 0) (slice_index fields.now.id 1) fields.now.source fields.now.destination packet.old.bytes;
-      destination = fields.now.destination;
-    } }
-{
-    let total = packet.bytes().len() + 20;
-    let from = fields.source;
-    let to = fields.destination;
-    let header = [
-        69,
-        fields.service,
-        (total / 256) as u8,
-        (total % 256) as u8,
-        fields.id[0],
-        fields.id[1],
-        0,
-        0,
-        0,
-        1,
-        0,
-        0,
-        from[0],
-        from[1],
-        from[2],
-        from[3],
-        to[0],
-        to[1],
-        to[2],
-        to[3],
-    ];
-    match packet.prepend_array(&header) {
-        Ok(()) => {}
-        Err(_) => unreachable!(),
-    }
-    let _there = packet.set_ttl(64);
-    packet.set_destination(to);
 }
 
 /// Returns whether a packet with a good header and this extent is an echo request.
@@ -114,8 +65,11 @@ pub fn answer_echo(packet: &mut Packet) -> bool
     }
     let bytes = packet.bytes();
     let fields = Fields {
+        protocol: 1,
         service: bytes[1],
         id: [bytes[4], bytes[5]],
+        flags: 0,
+        hops: 64,
         source: four(bytes, 16),
         destination: four(bytes, 12),
     };
@@ -193,8 +147,11 @@ pub fn report(packet: &mut Packet, own: [u8; 4], error: &ErrorKind) -> bool
     }
     let bytes = packet.bytes();
     let fields = Fields {
+        protocol: 1,
         service: 192 + bytes[1] % 32,
         id: [0, 0],
+        flags: 0,
+        hops: 64,
         source: own,
         destination: four(bytes, 12),
     };

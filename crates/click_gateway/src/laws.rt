@@ -1,8 +1,11 @@
 //! Theorems about the definitions.
 ghost use Rattle.std.specs.Prelude.{◌≡◌, ℕ, List, [], ◌∷◌, Some, true, false, ◌+◌, ◌*◌, ◌%◌, ◌≤◌, ◌≢◌, length, take, drop, min, slice_index, Contains};
 ghost use Rattle.click_packet.specs.Checksum.{sum_of_words, ones_sum};
-ghost use Rattle.click_packet.specs.Header.{total_len, source, header_good};
-ghost use Rattle.click_gateway.specs.Icmp.{destination, carried, message, is_echo_request, echo_reply, may_report, report_of};
+ghost use Rattle.click_packet.specs.Header.{stated_len, total_len, source, header, header_good};
+ghost use Rattle.click_gateway.specs.Datagrams.{destination};
+ghost use Rattle.click_gateway.specs.Icmp.{carried, message, is_echo_request, echo_reply, may_report, report_of};
+ghost use Rattle.click_gateway.specs.Mirrors.{is_frame, mirrored_frame, mirrored, with_checksum};
+ghost use Rattle.click_gateway.specs.Udp.{with_pseudo_header, udp_datagram};
 ghost use Rattle.click_gateway.specs.Arp.{is_station, requested, reply_to, request_for, sender, sender_ether};
 
 /// The ones' complement sum of each message is ffff, which is what its receiver checks (RFC 1071).
@@ -72,4 +75,38 @@ pub fn reports_are_good()
 /// 3.1).
 pub fn no_error_about_a_later_fragment()
     ensures { (bytes : List ℕ) → (slice_index bytes 6 * 256 + slice_index bytes 7) % 8192 ≢ 0 → may_report bytes ≡ false }
+{}
+
+/// A frame that is mirrored twice is the frame that it was.
+pub fn frames_mirrored_twice_are_the_same()
+    ensures { (frame : List ℕ) → is_frame frame ≡ true → mirrored_frame (mirrored_frame frame) ≡ frame }
+{}
+
+/// A datagram with a header that is mirrored twice is the datagram that it was.
+pub fn datagrams_mirrored_twice_are_the_same()
+    ensures { (bytes : List ℕ) → 20 ≤ stated_len bytes → stated_len bytes ≤ length bytes → mirrored (mirrored bytes) ≡ bytes }
+{}
+
+/// A header whose checksum is set sums to ffff, which is what its receiver checks (RFC 1071).
+pub fn set_checksums_are_right()
+    ensures { (bytes : List ℕ) → 20 ≤ stated_len bytes → stated_len bytes ≤ length bytes → ones_sum (sum_of_words (header (with_checksum bytes))) ≡ 65535 }
+{}
+
+/// A packet in a UDP datagram is a valid datagram between the two ends of the tunnel.
+///
+/// The pseudo header and the segment sum to ffff, as RFC 768 asks. From byte 8 on, the segment has
+/// the bytes of the packet.
+pub fn encapsulated_packets_are_good()
+    ensures good { (from to content : List ℕ) (from_port to_port : ℕ) → length from ≡ 4 → length to ≡ 4
+        → header_good (udp_datagram from from_port to to_port content) [] ≡ true }
+    ensures source { (from to content : List ℕ) (from_port to_port : ℕ) → length from ≡ 4 → length to ≡ 4
+        → source (udp_datagram from from_port to to_port content) ≡ from }
+    ensures destination { (from to content : List ℕ) (from_port to_port : ℕ) → length from ≡ 4 → length to ≡ 4
+        → destination (udp_datagram from from_port to to_port content) ≡ to }
+    ensures sum { (from to content : List ℕ) (from_port to_port : ℕ) → length from ≡ 4 → length to ≡ 4
+        → ones_sum (sum_of_words (with_pseudo_header from to (length content + 8) (carried (udp_datagram from from_port to to_port content)))) ≡ 65535 }
+    ensures content { (from to content : List ℕ) (from_port to_port : ℕ) → length from ≡ 4 → length to ≡ 4
+        → drop 8 (carried (udp_datagram from from_port to to_port content)) ≡ content }
+    ensures len { (from to content : List ℕ) (from_port to_port : ℕ) → length from ≡ 4 → length to ≡ 4
+        → length (udp_datagram from from_port to to_port content) ≡ 28 + length content }
 {}

@@ -9,14 +9,14 @@ use Rattle.std.proofs.lemmas.Slice.Eq.{bytes_eq-Decides}
 use Rattle.click_base.specs.Blanks.{trimmed}
 use Rattle.click_base.specs.declared.class.Class.TheVariants as is
 use Rattle.click_classes.specs.Neighbours.{Neighbour, most_neighbours, place_of}
-use Rattle.click_classes.specs.NeighbourWrites.{inserted, inserted_at}
+use Rattle.click_classes.specs.NeighbourWrites.{can_be_known, inserted, inserted_at}
 use Rattle.click_classes.specs.State.{class}
 use Rattle.click_classes.specs.declared.neighbours.Querier.{Querier}
 use Rattle.click_classes.specs.declared.state.State.{State}
 use Rattle.click_classes.specs.declared.state.State.TheVariants as state
 use Rattle.click_engine.specs.declared.run_state.Element.{Element}
 use Rattle.click_handlers.specs.Reads.{neighbour_line, neighbour_lines, read_state, read_value}
-use Rattle.click_handlers.specs.Writes.{written_neighbour, if_room, as_state, write_state, with_state, write_value}
+use Rattle.click_handlers.specs.Writes.{written_neighbour, or_out_of_range, as_state, write_state, with_state, write_value}
 use Rattle.click_handlers.specs.declared.fault.HandlerFault.{HandlerFault}
 use Rattle.click_handlers.proofs.QuerierTexts.{nobody}
 
@@ -63,7 +63,7 @@ module _ (address ether : List ℕ) (q p : Querier) where
 
   listed : inserted address ether q ≡ Some p → Listed p
   unfolding new grown known
-  listed e = go (place_of q.table address) refl e where
+  listed e = allowed (can_be_known address ether) e where
     by_room : (b : Bool) → (if b then Some grown else None) ≡ Some p → Listed p
     by_room true k = subst Listed (same_some grown p k) (line-of (q.table ++ new ∷ []) new (record { front = q.table; back = []; is = refl }))
     by_room false k = absurd (let l = k in cc)
@@ -80,6 +80,10 @@ module _ (address ether : List ℕ) (q p : Querier) where
         (subst (λ (a : List ℕ). IsLineIn (neighbour_line a (Some ether)) (neighbour_lines (slice_set q.table at (known n)))) is
         (line-of (slice_set q.table at (known n)) (known n) (parted q.table at (known n) found.0)))
 
+    allowed : (b : Bool) → (if b then inserted_at q address ether (place_of q.table address) else None) ≡ Some p → Listed p
+    allowed true k = go (place_of q.table address) refl k
+    allowed false k = absurd (let l = k in cc)
+
 module _ (address ether any : List ℕ) where
   abbrev Reads : Result (List ℕ) HandlerFault → Type 0
   Reads value = (front : List ℕ) × (back : List ℕ) × (value ≡ Ok (front ++ (neighbour_line address (Some ether) ++ back)))
@@ -93,7 +97,7 @@ module _ (address ether any : List ℕ) where
     ok_is : {x y : State} → ◌≡◌ {A = Result State HandlerFault} (Ok x) (Ok y) → x ≡ y
     ok_is k = cc
 
-    go : (o : Option Querier) → inserted address ether q ≡ o → as_state state.ARPQuerier (if_room o) ≡ Ok t → Reads (read_state inputs t (codes "table") any)
+    go : (o : Option Querier) → inserted address ether q ≡ o → as_state state.ARPQuerier (or_out_of_range o) ≡ Ok t → Reads (read_state inputs t (codes "table") any)
     go (Some p) is k = subst (λ (u : State). Reads (read_state inputs u (codes "table") any)) (ok_is k) (as_read p (listed address ether q p is))
     go None is k = absurd (let l = k in cc)
   state-listed inputs outputs _ t text e number made = absurd (let k = e in cc)

@@ -23,6 +23,12 @@ unlisted class.ARPResponder k = refl
 unlisted class.ARPQuerier k = refl
 unlisted class.ICMPError k = refl
 unlisted class.ICMPPingResponder k = refl
+unlisted class.HostEtherFilter k = refl
+unlisted class.EtherMirror k = refl
+unlisted class.IPMirror k = refl
+unlisted class.SetIPChecksum k = refl
+unlisted class.StripIPHeader k = refl
+unlisted class.UDPIPEncap k = refl
 unlisted _ k = absurd (cc k)
 
 -- classes with the same name are the same class

@@ -94,14 +94,14 @@ write_queue q handler text =
     else if bytes_eq handler (codes "reset_counts") then Ok (without_counts q)
     else Ok (emptied q)
 
--- a table has room for a new address, or not
-abbrev pub if_room : Option Querier → Result Querier HandlerFault
-if_room (Some q) = Ok q
-if_room None = Err fault.OutOfRange
+-- the querier, or the refusal of addresses that it did not insert
+abbrev pub or_out_of_range : Option Querier → Result Querier HandlerFault
+or_out_of_range (Some q) = Ok q
+or_out_of_range None = Err fault.OutOfRange
 
 -- a querier after a write of `insert`, `delete` and `expire`
 abbrev pub with_neighbour : Querier → Result (List ℕ × List ℕ) HandlerFault → Result Querier HandlerFault
-with_neighbour q (Ok both) = if_room (inserted both.0 both.1 q)
+with_neighbour q (Ok both) = or_out_of_range (inserted both.0 both.1 q)
 with_neighbour q (Err f) = Err f
 
 abbrev pub without_neighbour : Querier → Result (List ℕ) HandlerFault → Result Querier HandlerFault

@@ -1,6 +1,6 @@
 -- The ports that an element names exist.
 use Rattle.std.proofs.Common.{◌≡◌, ℕ, ◌+◌, ◌<◌, ◌≤◌, List, [], ◌∷◌, length, take, ◌==◌, nat_lt, Bool, true, false, Option, Some, None, if◌then◌else◌, min, max, refl, sym, ap, ◌∙◌, arith}
-use Rattle.std.specs.Prelude.{position, slice_get, ◌&&◌, nat_le}
+use Rattle.std.specs.Prelude.{position, slice_get, ◌&&◌}
 use Rattle.click_gateway.specs.Addresses.{is_host, ethernet_of_group}
 use Rattle.click_gateway.specs.Arp.{Sender, sender}
 use Rattle.click_classes.specs.Neighbours.{Neighbour, place_of}
@@ -11,7 +11,7 @@ use Rattle.std.proofs.lemmas.Bool.Decides.{nat_tests}
 use Rattle.std.proofs.lemmas.List.{length-take}
 use Rattle.std.proofs.lemmas.List.Quantifiers.{position-Some}
 use Rattle.click_packet.specs.Packet.{Packet}
-use Rattle.click_classes.specs.Acts.{counting, sent_to, asked, using, resolved_by, resolved_at, resolved, forwarded, let_go, knowing, learnt_at, learnt_of, learnt, act, pass, gives, pushed_to, copied_to, is_active, front_dropped, switched, routed, classified, tries, PushEffect}
+use Rattle.click_classes.specs.Acts.{counting, sent_to, asked, using, resolved_by, resolved_at, resolved, forwarded, taken_in, has_header_room, let_go, knowing, learnt_at, learnt_of, learnt, act, pass, gives, pushed_to, copied_to, is_active, front_dropped, switched, routed, classified, tries, PushEffect}
 use Rattle.click_classes.specs.Ports.{outputs_for}
 use Rattle.click_classes.specs.Fitting.{FitsPorts, AreThere, AreAsked}
 use Rattle.click_classes.specs.Matches.{matches}
@@ -94,7 +94,7 @@ routed-there outputs s (Some e) p h c = h e refl
 -- a querier's packets go to output 0, or to 1 where it is there
 module _ (outputs : ℕ) (some : 1 ≤ outputs) where
   sent-there : (q : Querier) (p : Packet) (to : List ℕ) → AreThere outputs (sent_to q p to).outputs
-  sent-there q p to c = either-there outputs (nat_le (14 + length p.bytes) 1600) _ _ (λ c. some) (λ c. omega (arith, c)) c
+  sent-there q p to c = either-there outputs (has_header_room p) _ _ (λ c. some) (λ c. omega (arith, c)) c
 
   asked-there : (q : Querier) (p : Packet) → AreThere outputs (asked outputs q p).outputs
   asked-there q p c = grind (arith, nat_tests)
@@ -114,6 +114,9 @@ module _ (outputs : ℕ) (some : 1 ≤ outputs) where
   forwarded-there : (q : Querier) (p : Packet) (o : Option (List ℕ)) → AreThere outputs (forwarded outputs q p o).outputs
   forwarded-there q p None c = resolved-there q p (place_of q.table p.destination) c
   forwarded-there q p (Some group) c = sent-there q p group c
+
+  taken_in-there : (q : Querier) (p : Packet) → AreThere outputs (taken_in outputs q p).outputs
+  taken_in-there q p c = either-there outputs (has_header_room p) _ _ (forwarded-there q p (ethernet_of_group p.destination)) (λ c. omega (arith, c)) c
 
   gone-there : (q : Querier) (p : Packet) (to : List ℕ) (o : Option Packet) → AreThere outputs (let_go q p to o).outputs
   gone-there q p to None c = omega (arith, c)
@@ -171,8 +174,14 @@ act-there inputs outputs input (state.ToDevice d) p h i c = omega (arith, c)
 act-there inputs outputs input (state.ARPResponder stations) p h i c = pushed-there outputs (pass (state.ARPResponder stations) p).verdict h.outputs_from c
 act-there inputs outputs input (state.ICMPError r) p h i c = pushed-there outputs (pass (state.ICMPError r) p).verdict h.outputs_from c
 act-there inputs outputs input state.ICMPPingResponder p h i c = pushed-there outputs (pass state.ICMPPingResponder p).verdict h.outputs_from c
+act-there inputs outputs input (state.HostEtherFilter ether) p h i c = pushed-there outputs (pass (state.HostEtherFilter ether) p).verdict h.outputs_from c
+act-there inputs outputs input state.EtherMirror p h i c = pushed-there outputs (pass state.EtherMirror p).verdict h.outputs_from c
+act-there inputs outputs input state.IPMirror p h i c = pushed-there outputs (pass state.IPMirror p).verdict h.outputs_from c
+act-there inputs outputs input state.SetIPChecksum p h i c = pushed-there outputs (pass state.SetIPChecksum p).verdict h.outputs_from c
+act-there inputs outputs input state.StripIPHeader p h i c = pushed-there outputs (pass state.StripIPHeader p).verdict h.outputs_from c
+act-there inputs outputs input (state.UDPIPEncap t) p h i c = pushed-there outputs (pass (state.UDPIPEncap t) p).verdict h.outputs_from c
 act-there inputs outputs input (state.ARPQuerier q) p h i c =
-    either-there outputs (input == 0) _ _ (forwarded-there outputs h.outputs_from (counting q) p (ethernet_of_group p.destination)) (learnt-there outputs h.outputs_from q p (sender p.bytes)) c
+    either-there outputs (input == 0) _ _ (taken_in-there outputs h.outputs_from (counting q) p) (learnt-there outputs h.outputs_from q p (sender p.bytes)) c
 
 pub gives-there : (inputs outputs input : ℕ) (s : State) (p : Packet) → AreThere outputs (gives inputs outputs s input p).copies
 unfolding gives
@@ -210,4 +219,10 @@ tries-there inputs outputs output (state.EtherEncap header) h o c = (omega (arit
 tries-there inputs outputs output (state.ARPResponder stations) h o c = (omega (arith, h.inputs_from), omega (arith, h.inputs_from))
 tries-there inputs outputs output (state.ICMPError r) h o c = (omega (arith, h.inputs_from), omega (arith, h.inputs_from))
 tries-there inputs outputs output state.ICMPPingResponder h o c = (omega (arith, h.inputs_from), omega (arith, h.inputs_from))
+tries-there inputs outputs output (state.HostEtherFilter ether) h o c = (omega (arith, h.inputs_from), omega (arith, h.inputs_from))
+tries-there inputs outputs output state.EtherMirror h o c = (omega (arith, h.inputs_from), omega (arith, h.inputs_from))
+tries-there inputs outputs output state.IPMirror h o c = (omega (arith, h.inputs_from), omega (arith, h.inputs_from))
+tries-there inputs outputs output state.SetIPChecksum h o c = (omega (arith, h.inputs_from), omega (arith, h.inputs_from))
+tries-there inputs outputs output state.StripIPHeader h o c = (omega (arith, h.inputs_from), omega (arith, h.inputs_from))
+tries-there inputs outputs output (state.UDPIPEncap t) h o c = (omega (arith, h.inputs_from), omega (arith, h.inputs_from))
 tries-there inputs outputs output s h o c = absurd (omega (arith, c))

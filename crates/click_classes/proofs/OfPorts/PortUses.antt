@@ -16,7 +16,7 @@ use Rattle.click_classes.specs.declared.state.State.TheVariants as state
 use Rattle.click_classes.specs.declared.values.entry.Entry.{Entry}
 use Rattle.click_classes.specs.Ports.{ports, at_least, up_to_256, outputs_for, counts}
 use Rattle.click_classes.specs.Entries.{word, entry_of, entry, has_prefix, with_entry, table}
-use Rattle.click_classes.specs.Made.{argument_at, given_or, optional, addresses, source_bytes, without_arguments, suppressor, capacity, empty, queue, front_drop_queue, switch_port, switch, pull_switch, copies, tee, pull_tee, only_number, paint, paint_tee, strip, check_length, get_ip_address, ether_header, ether_encap, device, from_device, to_device, classifier, static_ip_lookup, check_ip_header, infinite_source, station, arp_responder, querier, arp_querier, error_kind, icmp_error, FirstStandsFor, ByWords, IsFresh}
+use Rattle.click_classes.specs.Made.{argument_at, given_or, optional, addresses, source_bytes, without_arguments, suppressor, capacity, empty, queue, front_drop_queue, switch_port, switch, pull_switch, copies, tee, pull_tee, only_number, paint, paint_tee, strip, check_length, get_ip_address, ether_header, ether_encap, device, from_device, to_device, classifier, static_ip_lookup, check_ip_header, infinite_source, station, arp_responder, querier, arp_querier, error_kind, icmp_error, host_ether_filter, udp_ip_encap, FirstStandsFor, ByWords, IsFresh}
 use Rattle.click_classes.specs.Patterns.{pattern}
 use Rattle.click_classes.specs.State.{class}
 use Rattle.click_classes.specs.Steps.{◌>>=◌, each}
@@ -202,6 +202,23 @@ well_icmp_error args s h =
     let e = both_ok (optional args 3 0 (number_in 0 65535)) _ s d.2 in
     well is.ICMPError (state.ICMPError (record { own = a.0; kind = b.0; code = d.0; mtu = e.0 })) s e.2 refl one_one
 
+well_host_ether_filter : (args : List (List ℕ)) (s : State) → Ok s ≡ host_ether_filter args → IsWell is.HostEtherFilter s
+unfolding host_ether_filter
+well_host_ether_filter args s h =
+    let whole = taken (nat_le 1 (length args) && nat_le (length args) 1) _ s h in
+    let a = both_ok (ethernet (argument_at args 0)) _ s whole in
+    well is.HostEtherFilter (state.HostEtherFilter a.0) s a.2 refl one_or_two
+
+well_udp_ip_encap : (args : List (List ℕ)) (s : State) → Ok s ≡ udp_ip_encap args → IsWell is.UDPIPEncap s
+unfolding udp_ip_encap
+well_udp_ip_encap args s h =
+    let whole = taken (nat_le 4 (length args) && nat_le (length args) 4) _ s h in
+    let a = both_ok (address (argument_at args 0)) _ s whole in
+    let b = both_ok (number_in 0 65535 (argument_at args 1)) _ s a.2 in
+    let d = both_ok (address (argument_at args 2)) _ s b.2 in
+    let e = both_ok (number_in 0 65535 (argument_at args 3)) _ s d.2 in
+    well is.UDPIPEncap (state.UDPIPEncap (record { source = a.0; source_port = b.0; destination = d.0; destination_port = e.0 })) s e.2 refl one_one
+
 -- a first state is of its class, and some numbers of ports fit its counts
 pub first_well : (c : Class) (args : List (List ℕ)) (s : State) → IsFresh c args (Ok s) → IsWell c s
 unfolding queue front_drop_queue switch pull_switch tee pull_tee paint paint_tee strip check_length classifier get_ip_address static_ip_lookup check_ip_header from_device to_device arp_responder
@@ -239,3 +256,9 @@ first_well is.ARPResponder args s h = let w = by_words 1 256 arp_responder args 
 first_well is.ARPQuerier args s h = well_arp_querier args s h
 first_well is.ICMPError args s h = well_icmp_error args s h
 first_well is.ICMPPingResponder args s h = well_plain is.ICMPPingResponder state.ICMPPingResponder s args h refl one_or_two
+first_well is.HostEtherFilter args s h = well_host_ether_filter args s h
+first_well is.EtherMirror args s h = well_plain is.EtherMirror state.EtherMirror s args h refl one_one
+first_well is.IPMirror args s h = well_plain is.IPMirror state.IPMirror s args h refl one_one
+first_well is.SetIPChecksum args s h = well_plain is.SetIPChecksum state.SetIPChecksum s args h refl one_one
+first_well is.StripIPHeader args s h = well_plain is.StripIPHeader state.StripIPHeader s args h refl one_one
+first_well is.UDPIPEncap args s h = well_udp_ip_encap args s h

@@ -4,7 +4,7 @@ use Rattle.std.proofs.lemmas.Bool.{cond_both, eqb-false}
 use Rattle.click_packet.specs.Header.{ttl}
 use Rattle.click_packet.specs.Packet.{Packet}
 use Rattle.click_classes.specs.Acts.{made_or, act, pass, gives, stored, emission, is_active, queued, front_queued, front_dropped, switched, routed, classified, aged, first_of, fresh_packet, up_by, PassEffect, PushEffect, Stored}
-use Rattle.click_classes.specs.Gateway.{arp_reply, error_report, ping_reply}
+use Rattle.click_classes.specs.Gateway.{arp_reply, error_report, ping_reply, frame_mirror, datagram_mirror, checksum_set, header_stripped, udp_encapsulated}
 use Rattle.click_classes.specs.Settings.{settings}
 use Rattle.click_classes.specs.declared.neighbours.Querier.{Querier}
 use Rattle.click_classes.specs.declared.packet_effects.Verdict.{Verdict}
@@ -38,6 +38,11 @@ pass-sound (state.EtherEncap header) p h = passes (nat_le (length header + lengt
 pass-sound (state.ARPResponder stations) p h = made-sound (state.ARPResponder stations) (arp_reply stations p) p _ tt
 pass-sound (state.ICMPError r) p h = made-sound (state.ICMPError r) (error_report r p) p _ tt
 pass-sound state.ICMPPingResponder p h = made-sound state.ICMPPingResponder (ping_reply p) p _ tt
+pass-sound state.EtherMirror p h = made-sound state.EtherMirror (frame_mirror p) p _ tt
+pass-sound state.IPMirror p h = made-sound state.IPMirror (datagram_mirror p) p _ tt
+pass-sound state.SetIPChecksum p h = made-sound state.SetIPChecksum (checksum_set p) p _ tt
+pass-sound state.StripIPHeader p h = made-sound state.StripIPHeader (header_stripped p) p _ tt
+pass-sound (state.UDPIPEncap t) p h = made-sound (state.UDPIPEncap t) (udp_encapsulated t p) p _ tt
 pass-sound _ p h = h
 
 -- the packet is appended if there is room

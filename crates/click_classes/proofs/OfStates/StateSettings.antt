@@ -3,11 +3,11 @@ use Rattle.std.proofs.Common.{◌≡◌, ℕ, ◌+◌, List, [], ◌∷◌, leng
 use Rattle.std.proofs.lemmas.Bool.{cond_both}
 use Rattle.click_packet.specs.Header.{ttl}
 use Rattle.click_packet.specs.Packet.{Packet}
-use Rattle.click_classes.specs.Acts.{made_or, counting, sent_to, asked, using, resolved_by, resolved_at, resolved, forwarded, let_go, knowing, learnt_at, learnt_of, learnt, act, pass, gives, stored, emission, is_active, front_dropped, switched, routed, classified, aged, first_of, fresh_packet, up_by, PassEffect, PushEffect, Stored}
+use Rattle.click_classes.specs.Acts.{made_or, counting, sent_to, using, resolved_by, resolved_at, resolved, forwarded, taken_in, has_header_room, let_go, knowing, learnt_at, learnt_of, learnt, act, pass, gives, stored, emission, is_active, front_dropped, switched, routed, classified, aged, first_of, fresh_packet, up_by, PassEffect, PushEffect, Stored}
 use Rattle.std.specs.Prelude.{◌&&◌, nat_lt, slice_get}
 use Rattle.click_gateway.specs.Addresses.{is_host, ethernet_of_group}
 use Rattle.click_gateway.specs.Arp.{Sender, sender}
-use Rattle.click_classes.specs.Gateway.{arp_reply, error_report, ping_reply}
+use Rattle.click_classes.specs.Gateway.{arp_reply, error_report, ping_reply, frame_mirror, datagram_mirror, checksum_set, header_stripped, udp_encapsulated}
 use Rattle.click_classes.specs.Neighbours.{Neighbour, place_of}
 use Rattle.click_classes.specs.declared.neighbours.Querier.{Querier}
 use Rattle.click_classes.specs.declared.packet_effects.Verdict.{Verdict}
@@ -41,6 +41,11 @@ pass-settings (state.EtherEncap header) p = passes (state.EtherEncap header) (na
 pass-settings (state.ARPResponder stations) p = made-settings (state.ARPResponder stations) (arp_reply stations p) p _
 pass-settings (state.ICMPError r) p = made-settings (state.ICMPError r) (error_report r p) p _
 pass-settings state.ICMPPingResponder p = made-settings state.ICMPPingResponder (ping_reply p) p _
+pass-settings state.EtherMirror p = made-settings state.EtherMirror (frame_mirror p) p _
+pass-settings state.IPMirror p = made-settings state.IPMirror (datagram_mirror p) p _
+pass-settings state.SetIPChecksum p = made-settings state.SetIPChecksum (checksum_set p) p _
+pass-settings state.StripIPHeader p = made-settings state.StripIPHeader (header_stripped p) p _
+pass-settings (state.UDPIPEncap t) p = made-settings (state.UDPIPEncap t) (udp_encapsulated t p) p _
 pass-settings _ p = refl
 
 front_dropped-settings : (ps : List Packet) (q : PacketList) (drops highest : ℕ) (p : Packet)
@@ -62,7 +67,7 @@ module _ (q : Querier) where
   Kept r = settings r.state ≡ settings (state.ARPQuerier q)
 
   sent-settings : (t : Querier) (p : Packet) (to : List ℕ) → settings (state.ARPQuerier t) ≡ settings (state.ARPQuerier q) → Kept (sent_to t p to)
-  sent-settings t p to e = acts (state.ARPQuerier q) (nat_le (14 + length p.bytes) 1600) _ _ e e
+  sent-settings t p to e = acts (state.ARPQuerier q) (has_header_room p) _ _ e e
 
   by-settings : (outputs : ℕ) (p : Packet) (place : ℕ) (n : Neighbour) (o : Option (List ℕ)) → Kept (resolved_by outputs q p place n o)
   by-settings outputs p place n None = refl
@@ -79,6 +84,9 @@ module _ (q : Querier) where
   forwarded-settings : (outputs : ℕ) (p : Packet) (o : Option (List ℕ)) → Kept (forwarded outputs q p o)
   forwarded-settings outputs p None = resolved-settings outputs p (place_of q.table p.destination)
   forwarded-settings outputs p (Some group) = sent-settings q p group refl
+
+  taken_in-settings : (outputs : ℕ) (p : Packet) → Kept (taken_in outputs q p)
+  taken_in-settings outputs p = acts (state.ARPQuerier q) (has_header_room p) _ _ (forwarded-settings outputs p (ethernet_of_group p.destination)) refl
 
   gone-settings : (t : Querier) (p : Packet) (to : List ℕ) (o : Option Packet) → settings (state.ARPQuerier t) ≡ settings (state.ARPQuerier q) → Kept (let_go t p to o)
   gone-settings t p to None e = e
@@ -108,7 +116,7 @@ act-settings outputs input (state.Suppressor active) p = acts (state.Suppressor 
 act-settings outputs input (state.Classifier patterns) p = switched-settings (state.Classifier patterns) (classified patterns p.bytes) p
 act-settings outputs input (state.StaticIPLookup entries) p = routed-settings (state.StaticIPLookup entries) (route entries p.destination) p
 act-settings outputs input (state.ARPQuerier q) p =
-    acts (state.ARPQuerier q) (input == 0) _ _ (forwarded-settings (counting q) outputs p (ethernet_of_group p.destination)) (learnt-settings q p (sender p.bytes))
+    acts (state.ARPQuerier q) (input == 0) _ _ (taken_in-settings (counting q) outputs p) (learnt-settings q p (sender p.bytes))
 act-settings outputs input s p = pass-settings s p
 
 pub gives-settings : (inputs outputs input : ℕ) (s : State) (p : Packet) → settings (gives inputs outputs s input p).state ≡ settings s

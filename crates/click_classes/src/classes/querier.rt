@@ -4,7 +4,7 @@ ghost use Rattle.std.specs.Prelude.{◌≡◌, ◌<◌, length, slice_get, Some,
 ghost use Rattle.click_classes.specs.Neighbours.{Neighbour, place_of};
 ghost use Rattle.click_gateway.specs.Addresses.{ethernet_of_group};
 ghost use Rattle.click_gateway.specs.Arp.{sender};
-ghost use Rattle.click_classes.specs.Acts.{counting, sent_to, asked, resolved, forwarded, let_go, knowing, learnt};
+ghost use Rattle.click_classes.specs.Acts.{counting, sent_to, asked, resolved, forwarded, taken_in, let_go, knowing, learnt};
 ghost use Rattle.click_classes.specs.Made.{arp_querier};
 ghost use Rattle.click_classes.specs.declared.state.State.{State};
 ghost use Rattle.click_classes.specs.kept.Answers.{IsOrNoMemory};
@@ -19,6 +19,9 @@ use crate::values::ethernet::ethernet;
 use click_gateway::{arp_sender, ask_for, ethernet_of_group, is_host, with_ether_header};
 use click_packet::Packet;
 use std::alloc::Global;
+
+/// The maximum number of bytes of a packet that gets an Ethernet header of 14 bytes.
+const LONGEST_DATAGRAM: usize = 1600 - 14;
 
 const NOWHERE: PortRange = PortRange { first: 0, count: 0 };
 
@@ -38,19 +41,24 @@ const NOWHERE: PortRange = PortRange { first: 0, count: 0 };
 ///   sender that claims the Ethernet address of a group is not believed (RFC 1812, section 3.3.2).
 ///   All other packets have no effect. No ARP packet leaves the element.
 /// - The table has 256 addresses. A packet for a new address is dropped if the table is full, or if
-///   the address cannot be one host's. So is a packet of more than 1,586 bytes, and one that
-///   another replaces. All these are counted.
+///   the address cannot be one host's. So is one that another replaces. A packet of more than 1,586
+///   bytes is dropped at once: it causes no query, and replaces no packet. All these are counted.
 /// - There is no clock, so an entry does not age. It changes when its host sends an ARP packet, and
-///   `expire` removes entries that are no longer used. A swap takes over the table, the packets
-///   that wait and the counts.
+///   `expire` removes entries that are no longer used. An entry is used by each packet to its
+///   address that leaves or waits, by each ARP packet from it, and by `insert`. So the entry of a
+///   host that never answers stays as long as packets to it arrive; `delete` removes it.
+/// - A swap takes over the table, the packets that wait and the counts, also if IP or ETHER
+///   differs.
 /// - Read handlers: `table`, `count` and `drops`. `table` has a line for each entry, with the
 ///   address and the Ethernet address, or `-` if that is not known. `count` is the number of
 ///   entries, and `drops` that of dropped packets, at most 2^64 - 1.
 /// - Write handlers: `insert`, an address and an Ethernet address, which is known from then on (not
-///   an address, out of range if the table is full). `delete`, an address, removes its entry (not
-///   an address). `clear` removes all entries. `expire`, a number N, removes each entry after whose
-///   last use N or more packets arrived at input 0 (not a number, out of range). `reset_counts`
-///   sets `drops` to 0. A packet that waits for an entry that is removed or overwritten is dropped.
+///   an address, out of range). It is out of range if the table is full, if the address cannot be
+///   one host's, or if the Ethernet address is zero or a group's. `delete`, an address, removes its
+///   entry (not an address). `clear` removes all entries. `expire`, a number N, removes each entry
+///   after whose last use N or more packets arrived at input 0 (not a number, out of range).
+///   `reset_counts` sets `drops` to 0. A packet that waits for an entry that is removed or
+///   overwritten is dropped.
 ///
 /// ```click
 /// require(gateway);
@@ -161,7 +169,7 @@ fn resolve_at(querier: &mut Querier, outputs: u16, packet: &mut Packet, place: u
     ask(querier, outputs, packet)
 }
 
-/// Does what `forward` does, for a packet to one address.
+/// Does what `send` does, for a packet to one address.
 fn resolve(querier: &mut Querier, outputs: u16, packet: &mut Packet) -> PortRange
     ensures { resolved outputs querier.old packet.old (place_of querier.old.table packet.old.destination)
         ≡ record { state = State.ARPQuerier querier.new; packet = packet.new; outputs = result } }
@@ -172,18 +180,32 @@ fn resolve(querier: &mut Querier, outputs: u16, packet: &mut Packet) -> PortRang
     }
 }
 
-/// Counts a packet at input 0, and sends it to its destination, or queries that. Returns the
-/// output.
-#[inline(never)]
-pub fn forward(querier: &mut Querier, outputs: u16, packet: &mut Packet) -> PortRange
-    ensures { forwarded outputs (counting querier.old) packet.old (ethernet_of_group packet.old.destination)
+/// Sends a packet to its destination, or queries that. Returns the output.
+fn send(querier: &mut Querier, outputs: u16, packet: &mut Packet) -> PortRange
+    ensures { forwarded outputs querier.old packet.old (ethernet_of_group packet.old.destination)
         ≡ record { state = State.ARPQuerier querier.new; packet = packet.new; outputs = result } }
 {
-    querier.packets = querier.packets.saturating_add(1);
     match ethernet_of_group(packet.destination()) {
         Some(group) => send_to(querier, packet, group),
         None => resolve(querier, outputs, packet),
     }
+}
+
+/// Counts a packet at input 0, and sends it to its destination, or queries that. Returns the
+/// output.
+///
+/// A packet that is too long for an Ethernet header is dropped and counted.
+#[inline(never)]
+pub fn forward(querier: &mut Querier, outputs: u16, packet: &mut Packet) -> PortRange
+    ensures { taken_in outputs (counting querier.old) packet.old
+        ≡ record { state = State.ARPQuerier querier.new; packet = packet.new; outputs = result } }
+{
+    querier.packets = querier.packets.saturating_add(1);
+    if packet.bytes().len() > LONGEST_DATAGRAM {
+        querier.drops = querier.drops.saturating_add(1);
+        return NOWHERE;
+    }
+    send(querier, outputs, packet)
 }
 
 /// Stores the Ethernet address of the neighbour with this index, and sends the packet that waits

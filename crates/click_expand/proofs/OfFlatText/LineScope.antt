@@ -83,6 +83,12 @@ no-gateway kind.ARPResponder k = absurd (cc k)
 no-gateway kind.ARPQuerier k = absurd (cc k)
 no-gateway kind.ICMPError k = absurd (cc k)
 no-gateway kind.ICMPPingResponder k = absurd (cc k)
+no-gateway kind.HostEtherFilter k = absurd (cc k)
+no-gateway kind.EtherMirror k = absurd (cc k)
+no-gateway kind.IPMirror k = absurd (cc k)
+no-gateway kind.SetIPChecksum k = absurd (cc k)
+no-gateway kind.StripIPHeader k = absurd (cc k)
+no-gateway kind.UDPIPEncap k = absurd (cc k)
 no-gateway _ k = refl
 
 -- the name of a class means that class, if `g` is true or the class is not of the gateway package

@@ -7,7 +7,7 @@ ghost use Rattle.click_classes.specs.State.{class};
 ghost use Rattle.click_handlers.specs.Answers.{IsReadAnswer, IsWriteAnswer};
 ghost use Rattle.click_handlers.specs.Names.{name_at, querier_reads, querier_writes};
 ghost use Rattle.click_handlers.specs.Reads.{read_value};
-ghost use Rattle.click_handlers.specs.Writes.{if_room, write_value};
+ghost use Rattle.click_handlers.specs.Writes.{or_out_of_range, write_value};
 
 use crate::fault::HandlerFault;
 use crate::texts::{number_from, number_text, table_text, written_address, written_neighbour};
@@ -62,11 +62,12 @@ pub fn read_querier_drops(
 
 /// Stores the Ethernet address of an address in the table.
 ///
-/// Fails with `OutOfRange`, and changes nothing, if the address is new and the table is full.
+/// Fails with `OutOfRange`, and changes nothing, if the address is new and the table is full, or if
+/// the two cannot be the addresses of one host.
 fn insert(querier: &mut Querier, address: [u8; 4], ether: [u8; 6]) -> Result<(), HandlerFault>
-    ensures new { OnOk result (if_room (inserted address ether querier.old) ≡ Ok querier.new) }
+    ensures new { OnOk result (or_out_of_range (inserted address ether querier.old) ≡ Ok querier.new) }
     ensures same { OnErr result (querier.new ≡ querier.old) }
-    ensures fault { IfErr result (λ fault. (fault ≡ HandlerFault.OutOfRange) × (if_room (inserted address ether querier.old) ≡ Err fault)) }
+    ensures fault { IfErr result (λ fault. (fault ≡ HandlerFault.OutOfRange) × (or_out_of_range (inserted address ether querier.old) ≡ Err fault)) }
 {
     if querier.insert(address, ether) {
         Ok(())
@@ -78,7 +79,8 @@ fn insert(querier: &mut Querier, address: [u8; 4], ether: [u8; 6]) -> Result<(),
 /// Writes `insert`: an address and its Ethernet address, which is known from then on.
 ///
 /// A new address is added at the end of the table. A packet that waits for the address counts as
-/// dropped.
+/// dropped. The IP address must be one that can be a host's, and the Ethernet address one
+/// station's.
 pub fn write_insert(element: Element, text: &[u8]) -> Written
     requires { class element.state ≡ is.ARPQuerier }
     ensures { IsWriteAnswer (codes "insert") element text.now result }

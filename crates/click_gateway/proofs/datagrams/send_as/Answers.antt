@@ -1,17 +1,17 @@
 use Rattle.std.proofs.Common.{◌≡◌, ℕ, ◌+◌, ◌/◌, ◌%◌, List, ◌∷◌, ◌++◌, length, get_or, Some, refl, ap, ◌∙◌, arith, length-append}
 use Rattle.click_packet.specs.Header.{header_len}
 use Rattle.click_packet.proofs.Headers.{header_len-some}
-use Rattle.click_gateway.specs.Icmp.{datagram}
+use Rattle.click_gateway.specs.Datagrams.{datagram_of}
 use Rattle.click_gateway.proofs.Fronts.{four-front}
-use Rattle.click_gateway.proofs.icmp.send_as.Goals as goal
+use Rattle.click_gateway.proofs.datagrams.send_as.Goals as goal
 
 pub returns : goal.returns
-unfolding datagram
+unfolding datagram_of
 returns c =
     let f = c.args.fields.now in
     let p = c.args.packet.now in
     let total = length p.bytes + 20 in
-    let front : List ℕ → List ℕ = λ rest. 69 ∷ f.service ∷ (total / 256) ∷ (total % 256) ∷ get_or f.id 0 0 ∷ get_or f.id 1 0 ∷ 0 ∷ 0 ∷ 0 ∷ 1 ∷ 0 ∷ 0 ∷ rest in
+    let front : List ℕ → List ℕ = λ rest. 69 ∷ f.service ∷ (total / 256) ∷ (total % 256) ∷ get_or f.id 0 0 ∷ get_or f.id 1 0 ∷ f.flags ∷ 0 ∷ 0 ∷ f.protocol ∷ 0 ∷ 0 ∷ rest in
     let bytes = front (f.source ++ (f.destination ++ p.bytes)) in
     let n1 : length f.source ≡ 4 = omega arith in
     let n2 : length f.destination ≡ 4 = omega arith in
