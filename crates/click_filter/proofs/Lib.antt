@@ -1,0 +1,3 @@
+pub mod PatternNodes
+pub mod StepValues
+pub mod RuleLists
