@@ -1,12 +1,13 @@
 #!/usr/bin/env python3
 """Checks the page of a running router, by plain sockets and in a headless Chromium. By sockets:
 foreign hosts, writes without the header, and slow, large and many requests, while a session is
-answered. Also where the page listens, large answers to clients that read slowly or close,
+answered, and its metrics by a parser of their format. Also where the page listens, large answers to clients that read slowly or close,
 connections that wait, and a run that ends with its session. In the browser: the picture, live
-counters, a write that a session sees, and swaps by the page and by a session.
+counters, a write that a session sees, and swaps by the page and by a session. And a Prometheus
+scrapes the page and answers queries.
 
-    tools/page.py [--part sockets|connections|browser] [--shots FOLDER] [PROGRAM [WORD..]]
-    tools/page.py --mock [--wrong WHAT] [--part sockets|browser] [--shots FOLDER]
+    tools/page.py [--part sockets|connections|browser|prometheus] [--shots FOLDER] [PROGRAM [WORD..]]
+    tools/page.py --mock [--wrong WHAT] [--part sockets|browser|prometheus] [--shots FOLDER]
     tools/page.py --wrongs [WHAT..]
 
 The router is started as PROGRAM WORD.. -e TEXT --live -p P -w 1 --page Q, and for one check
@@ -18,8 +19,8 @@ The part `connections` needs a program.
 The check of that point has to fail. --shots writes screenshots of the page over four
 configurations.
 
-Chromium is Debian's (apt-get install chromium). Without it the part `browser` and the screenshots
-are left out. The last line is 'N passed, M failed', and the status is 1 if a check failed.
+Chromium and Prometheus are Debian's (apt-get install chromium prometheus). Without Chromium the
+part `browser` and the screenshots are left out, and without Prometheus the part `prometheus`. The last line is 'N passed, M failed', and the status is 1 if a check failed.
 """
 import argparse
 import base64
@@ -43,7 +44,9 @@ from hostile import listeners  # noqa: E402
 TOP = os.path.dirname(os.path.dirname(os.path.realpath(__file__)))
 sys.path.insert(0, f"{TOP}/tools/lib")
 from chromium import Browser, BrowserFault  # noqa: E402
+from exposition import Metrics  # noqa: E402
 from programs import path_of  # noqa: E402
+from prometheus import Prometheus  # noqa: E402
 
 # The maximum seconds until the router ends a slow request head, and until anything else happens.
 PATIENCE, SECONDS = 60, 10
@@ -315,11 +318,66 @@ def reads_in_order(client):
     same({"value": "64"}, client.ask("/read?handler=left%2Fq.capacity").json()[0], "a handler that is percent-encoded")
 
 
+def shows_bytes(client):
+    """Checks names of handlers that no element has: bytes, `+`, and `%` that encodes nothing."""
+    for sent, name in (("%FF.x", "\u00ff"), ("%C3%A4%ff.x", "\u00c3\u00a4\u00ff")):
+        same([{"fault": 510, "text": f"510 No element named '{name}'\r\n"}], client.ask(f"/read?handler={sent}").json(), f"/read?handler={sent}")
+    for sent, name in (("a+b", "a b"), ("a%2Bb", "a+b"), ("a%zz", "a%zz"), ("a%", "a%"), ("a#b", "a")):
+        same([{"fault": 511, "text": f"511 No handler named '{name}'\r\n"}], client.ask(f"/read?handler={sent}").json(), f"/read?handler={sent}")
+
+
+# The read handlers of each class whose values are numbers (docs/CALLS.md): those whose values may
+# fall, and those whose values only grow until they are reset.
+NUMBERS = {
+    "InfiniteSource": ([], ["count"]),
+    "Counter": ([], ["count", "byte_count"]),
+    "Switch": (["switch"], []),
+    "Queue": (["length", "highwater_length", "capacity"], ["drops"]),
+}
+
+
+def has_metrics(client):
+    flat, answer = client.ask("/flat").json(), client.ask("/metrics")
+    same((200, ["text/plain; version=0.0.4; charset=utf-8"]), (answer.status, answer.field("content-type")), "the status and the type of /metrics")
+    metrics = Metrics(answer.body.decode())
+    same({"click_elements": "gauge", "click_overruns_total": "counter", "click_handler": "gauge", "click_handler_total": "counter"}, metrics.types, "the types")
+    wanted = {("click_elements", frozenset()), ("click_overruns_total", frozenset())}
+    for element in flat["elements"]:
+        for metric, handlers in zip(("click_handler", "click_handler_total"), NUMBERS.get(element["class"], ([], []))):
+            wanted |= {(metric, frozenset({("element", element["name"]), ("class", element["class"]), ("handler", it)})) for it in handlers}
+    same([], sorted(map(str, wanted ^ set(metrics.values))), "samples that are missing or too many")
+    same(len(WATCHED_NAMES), metrics.values["click_elements", frozenset()], "click_elements")
+    same(float(client.session.read("overruns")), metrics.values["click_overruns_total", frozenset()], "click_overruns_total")
+
+
+def measures_handlers(client):
+    """Checks each value of the metrics between two reads of its handler."""
+    names = [f"{element['name']}.{handler}" for element in client.ask("/flat").json()["elements"] for handler in element["reads"]]
+    query = "/read?" + "&".join(f"handler={it.replace('/', '%2F')}" for it in names)
+    before, metrics, after = client.ask(query).json(), Metrics(client.ask("/metrics").body.decode()), client.ask(query).json()
+    found = {f"{dict(labels)['element']}.{dict(labels)['handler']}": value for (name, labels), value in metrics.values.items() if labels}
+    for name, first, last in zip(names, before, after):
+        if not re.fullmatch(r"-?\d+", first.get("value", "")):
+            same(None, found.get(name), f"the metric of {name}, which is {first}")
+        elif not name.endswith(".length") and not int(first["value"]) <= found[name] <= int(last["value"]):
+            raise Wrong(f"{name} is {found[name]} in /metrics, and before and after {first} and {last}")
+
+
+def answers_heads(client):
+    """Checks HEAD: the status and the fields of GET, and no body."""
+    for target in ("/", "/picture.svg", "/flat", "/read?handler=version", "/metrics"):
+        wanted, came = client.ask(target), client.ask(target, "HEAD")
+        same((200, b""), (came.status, came.body), f"the status and the body of HEAD {target}")
+        if target != "/metrics":
+            same(wanted.fields, came.fields, f"the fields of HEAD {target}")
+    for target in ("/write?handler=s.switch", "/swap"):
+        same(405, client.ask(target, "HEAD", fields=[MARK]).status, f"HEAD {target}")
+
 def limits_reads(client):
     same(256, len(client.ask("/read?" + "&".join(["handler=version"] * 256)).json()), "answers to 256 reads")
-    for query in ("", "?", "?handler=version&other=1", "?" + "&".join(["handler=version"] * 257)):
+    for query in ("", "?", "?handler=", "?handler", "?handler=version&handler=", "?handler=version&other=1", "?" + "&".join(["handler=version"] * 257)):
         same(400, client.ask("/read" + query).status, f"/read{query[:40]}")
-    for query in ("", "?handler=s.switch&handler=s.switch", "?other=s.switch"):
+    for query in ("", "?handler=", "?handler=s.switch&handler=s.switch", "?other=s.switch"):
         same(400, client.ask("/write" + query, "POST", b"0", [MARK]).status, f"/write{query}")
 
 
@@ -330,8 +388,10 @@ def writes_without_text(client):
 
 
 def wants_methods(client):
-    for method, target in (("POST", "/"), ("POST", "/read?handler=config"), ("DELETE", "/flat"), ("GET", "/swap"), ("GET", "/write?handler=s.switch"), ("PUT", "/swap")):
-        same(405, client.ask(target, method, b"", [MARK]).status, f"{method} {target}")
+    for method, target in (("POST", "/"), ("POST", "/read?handler=config"), ("POST", "/metrics"), ("DELETE", "/flat"), ("GET", "/swap"), ("GET", "/write?handler=s.switch"), ("PUT", "/swap")):
+        answer = client.ask(target, method, b"", [MARK])
+        allowed = "POST" if target.startswith(("/swap", "/write")) else "GET, HEAD"
+        same((405, [allowed]), (answer.status, answer.field("allow")), f"the status and the methods of {method} {target}")
     same(404, client.ask("/nothing").status, "GET /nothing")
 
 
@@ -340,7 +400,7 @@ def wants_methods(client):
 
 def refuses_hosts(client):
     port = client.router.page
-    for host in (f"127.0.0.1:{port}", f"localhost:{port}", f"[::1]:{port}"):
+    for host in (f"127.0.0.1:{port}", f"localhost:{port}", f"[::1]:{port}", f"LocalHost:{port}"):
         same(200, client.ask("/read?handler=version", host=host).status, f"Host {host}")
     for host in ("evil.example", f"evil.example:{port}", "127.0.0.1", f"127.0.0.1:{port + 1}", f"localhost.evil.example:{port}", f"10.0.0.1:{port}", f"127.0.0.1:0{port}"):
         same(403, client.ask("/read?handler=version", host=host).status, f"Host {host}")
@@ -348,7 +408,17 @@ def refuses_hosts(client):
 
 
 def refuses_targets(client):
-    same(403, client.ask("http://evil.example/read?handler=version").status, "a target at evil.example")
+    port = client.router.page
+    for place in ("http://evil.example", f"http://127.0.0.1:{port + 1}", f"https://127.0.0.1:{port}", f"http://user@127.0.0.1:{port}", "http://127.0.0.1"):
+        same(403, client.ask(f"{place}/read?handler=version").status, f"a target at {place}")
+
+
+def takes_own_targets(client):
+    """Checks targets in the absolute form. Host is then ignored (RFC 9112, 3.2.2)."""
+    port = client.router.page
+    for place in (f"http://127.0.0.1:{port}", f"HTTP://LOCALHOST:{port}", f"http://[::1]:{port}"):
+        answer = client.ask(f"{place}/read?handler=version", host="evil.example")
+        same((200, b'[{"value":"1"}]'), (answer.status, answer.body), f"a target at {place}")
 
 
 def refuses_foreign_posts(client):
@@ -431,11 +501,34 @@ def ends_slow_heads(client):
 
 
 def limits_connections(client):
+    """Checks a 33rd connection while 32 have parts of requests."""
     with contextlib.ExitStack() as all_of_them:
         for _ in range(32):
-            all_of_them.enter_context(client.connect())
+            all_of_them.enter_context(client.connect()).sendall(b"G")
         time.sleep(0.3)
         same(503, client.ask("/").status, "GET / over a 33rd connection")
+    until(lambda: client.ask("/").status == 200, "the page is answered once the others have gone")
+
+
+def closes_idle(client):
+    """Checks a 33rd connection while 30 have parts of requests and two wait for one.
+
+    The one that waited longer is closed, and the other is answered.
+    """
+    request = f"GET /read?handler=version HTTP/1.1\r\nhost: 127.0.0.1:{client.router.page}\r\n\r\n".encode()
+    with contextlib.ExitStack() as all_of_them:
+        first, second = (all_of_them.enter_context(client.connect()) for _ in range(2))
+        for peer in (second, first):
+            time.sleep(0.3)
+            peer.sendall(request)
+            same([{"value": "1"}], answer_on(peer).json(), "an answer")
+        for _ in range(30):
+            all_of_them.enter_context(client.connect()).sendall(b"G")
+        time.sleep(0.3)
+        same(200, client.ask("/").status, "GET / over a 33rd connection")
+        same(b"", received(second), "what the connection gets that waited longest")
+        first.sendall(request)
+        same([{"value": "1"}], answer_on(first).json(), "an answer on the connection that waited less")
     until(lambda: client.ask("/").status == 200, "the page is answered once the others have gone")
 
 
@@ -444,7 +537,7 @@ def answers_sessions(client):
     with contextlib.ExitStack() as all_of_them:
         for _ in range(32):
             all_of_them.enter_context(client.connect()).sendall(b"GET / HTTP/1.1\r\n")
-        time.sleep(0.3)
+        until(lambda: client.ask("/").status == 503, "all connections are in use")
         for _ in range(20):
             same("1", client.session.read("version"), "READ version")
         same(503, client.ask("/").status, "GET / over one more, since the others are still there")
@@ -456,11 +549,16 @@ SOCKETS = {
     "every answer has the policy and the other guards": is_guarded,
     "/flat is the flat form": is_flat_form,
     "/read answers in order, values and faults": reads_in_order,
+    "bytes of handlers appear as bytes": shows_bytes,
+    "/metrics has each number of each element": has_metrics,
+    "/metrics has the values of the handlers": measures_handlers,
+    "HEAD is there where GET is": answers_heads,
     "queries have 1 to 256 handlers": limits_reads,
     "a write may have an empty body": writes_without_text,
     "other methods and places are refused": wants_methods,
     "a foreign Host is refused": refuses_hosts,
     "a target elsewhere is refused": refuses_targets,
+    "a target that names this page is taken": takes_own_targets,
     "a post of a foreign page is refused and changes nothing": refuses_foreign_posts,
     "no foreign page is let in": lets_nobody_in,
     "garbage is refused": refuses_garbage,
@@ -468,6 +566,7 @@ SOCKETS = {
     "a long body is refused": limits_bodies,
     "a slow head is ended": ends_slow_heads,
     "a 33rd connection is refused": limits_connections,
+    "the connection that waited longest makes room": closes_idle,
     "a control session answers meanwhile": answers_sessions,
 }
 
@@ -715,6 +814,45 @@ def connections_tried(tally, command):
             tally.check(what, it.result)
 
 
+# ---- By Prometheus
+
+
+def is_scraped(scraper):
+    until(lambda: scraper.value('up{job="click"}') == 1, "Prometheus has scraped the page", 3 * SECONDS)
+    same(len(WATCHED_NAMES), scraper.value("click_elements"), "click_elements")
+    same(64, scraper.value('click_handler{element="left/q",class="Queue",handler="capacity"}'), "the capacity of left/q")
+
+
+def knows_types(scraper):
+    known = until(lambda: scraper.ask("metadata"), "Prometheus knows the metrics")
+    for metric, kind in (("click_handler", "gauge"), ("click_handler_total", "counter"), ("click_elements", "gauge"), ("click_overruns_total", "counter")):
+        same([kind], [it["type"] for it in known.get(metric, [])], f"the type of {metric}")
+
+
+def sees_growth(scraper):
+    until(lambda: (scraper.value('rate(click_handler_total{element="c",handler="count"}[10s])') or 0) > 0, "a rate of c.count", 3 * SECONDS)
+
+
+PROMETHEUS = {
+    "Prometheus scrapes the page": is_scraped,
+    "Prometheus knows the types of the metrics": knows_types,
+    "Prometheus sees a counter grow": sees_growth,
+}
+
+
+def try_prometheus(tally, router):
+    program = shutil.which("prometheus")
+    if not program:
+        print("left out: the part prometheus, because prometheus is not installed (apt-get install prometheus)")
+        return
+    scraper = Prometheus(program, *free_ports(1), router.page)
+    try:
+        for what, act in PROMETHEUS.items():
+            tally.check(what, act, scraper)
+    finally:
+        scraper.close()
+
+
 # ---- In the browser: what an operator sees and does
 
 
@@ -927,6 +1065,19 @@ def take_shots(browser, command, folder):
 SEEN_BY = {
     "no-host-check": "a foreign Host is refused",
     "no-target-check": "a target elsewhere is refused",
+    "no-absolute-form": "a target that names this page is taken",
+    "capital-hosts": "a foreign Host is refused",
+    "no-allow": "other methods and places are refused",
+    "no-head": "HEAD is there where GET is",
+    "empty-handler": "queries have 1 to 256 handlers",
+    "utf-8-names": "bytes of handlers appear as bytes",
+    "no-types": "/metrics has each number of each element",
+    "all-gauges": "/metrics has each number of each element",
+    "less-metrics": "/metrics has each number of each element",
+    "other-metrics": "/metrics has the values of the handlers",
+    "bad-sample": "Prometheus scrapes the page",
+    "still-metrics": "Prometheus sees a counter grow",
+    "untyped": "Prometheus knows the types of the metrics",
     "no-mark-check": "a post of a foreign page is refused and changes nothing",
     "cors": "no foreign page is let in",
     "no-policy": "every answer has the policy and the other guards",
@@ -939,6 +1090,8 @@ SEEN_BY = {
     "long-heads": "a long head is refused",
     "long-bodies": "a long body is refused",
     "many-connections": "a 33rd connection is refused",
+    "no-room": "the connection that waited longest makes room",
+    "other-room": "the connection that waited longest makes room",
     "stuck-sessions": "a control session answers meanwhile",
     "other-flat": "/flat is the flat form",
     "other-element": "the drawing has each element and each connection",
@@ -974,7 +1127,7 @@ def try_wrongs(names):
         what = SEEN_BY[wrong]
 
         def is_seen():
-            part = "sockets" if what in SOCKETS else "browser"
+            part = "sockets" if what in SOCKETS else "prometheus" if what in PROMETHEUS else "browser"
             did = subprocess.run([sys.executable, __file__, "--mock", "--wrong", wrong, "--part", part], capture_output=True, text=True)
             if did.returncode != 1 or f"FAILED  {what}" not in did.stdout:
                 raise Wrong(f"it ended with status {did.returncode} and printed {did.stdout[-1500:]}{did.stderr[-500:]}")
@@ -998,9 +1151,11 @@ def try_router(tally, command, given):
     program = shutil.which("chromium")
     with Router(command, WATCHED) as router:
         session = Session(router)
-        if given.part != "browser":
+        if given.part in (None, "sockets"):
             try_sockets(tally, router, session)
-        if given.part == "sockets":
+        if given.part in (None, "prometheus"):
+            try_prometheus(tally, router)
+        if given.part in ("sockets", "prometheus"):
             return
         if not program:
             print("left out: the part browser, because chromium is not installed (apt-get install chromium)")
@@ -1019,7 +1174,7 @@ def main():
     words.add_argument("--mock", action="store_true")
     words.add_argument("--wrong", choices=page_mock.WRONGS)
     words.add_argument("--wrongs", nargs="*", metavar="WHAT")
-    words.add_argument("--part", choices=["sockets", "connections", "browser"])
+    words.add_argument("--part", choices=["sockets", "connections", "browser", "prometheus"])
     words.add_argument("--shots")
     words.add_argument("command", nargs=argparse.REMAINDER)
     given = words.parse_args()

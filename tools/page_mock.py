@@ -44,13 +44,17 @@ HANDLERS = {
 }
 OWN = ["version", "list", "config", "flatconfig", "classes", "overruns"]
 REASONS = {200: "OK", 400: "Bad Request", 403: "Forbidden", 404: "Not Found", 405: "Method Not Allowed", 413: "Content Too Large", 431: "Request Header Fields Too Large", 503: "Service Unavailable"}
+READING = ["GET", "HEAD"]
+ALLOWED = {"/": READING, "/picture.svg": READING, "/flat": READING, "/read": READING, "/metrics": READING, "/write": ["POST"], "/swap": ["POST"]}
+LEVELS, TOTALS = ["length", "highwater_length", "capacity", "switch"], ["count", "byte_count", "drops"]
 MOST_HEAD, MOST_BODY, MOST_CONNECTIONS = 65536, 1048576, 32
 # Shorter than those of the router, so that tests are faster.
 SECONDS_FOR_A_HEAD, SECONDS_BETWEEN = 3, 30
 # The points in which the mock can be wrong. tools/page.py has to find each of them.
 WRONGS = """no-host-check no-target-check no-mark-check cors no-policy other-policy other-page no-method-check slow-heads takes-garbage long-heads long-bodies
 many-connections stuck-sessions other-element less-connections other-flat still-counter lost-write other-place no-place fault-installs no-redraw unseen-swap
-no-denial any-query""".split()
+no-denial any-query empty-handler utf-8-names no-absolute-form capital-hosts no-allow no-head no-types less-metrics other-metrics all-gauges
+bad-sample still-metrics untyped no-room other-room""".split()
 # Edits of the page: a text that occurs once, and its replacement.
 PAGE_EDITS = {
     "page-with-markup": ("it.textContent = text;\n  for", "it.innerHTML = text;\n  for"),
@@ -223,7 +227,7 @@ def as_json(data):
 
 def as_bytes(text):
     """Returns a text with a character for each byte of its UTF-8 form, as in the page's JSON."""
-    return text.encode().decode("latin-1")
+    return text.encode(errors="surrogateescape").decode("latin-1")
 
 
 def entry(answer):
@@ -240,13 +244,15 @@ class Page:
         self.router, self.port, self.wrong = router, port, wrong
         self.page = file_text(PAGE).replace(*PAGE_EDITS.get(wrong, ("", "", 0))).encode() + (b"<!-- -->\n" if wrong == "other-page" else b"")
         self.places, self.lock = MOST_CONNECTIONS, threading.Lock()
+        # The connections that wait for a request, and since when.
+        self.waiting = {}
         script = max(re.findall(rb"<script>(.*?)</script>", self.page, re.S), key=len)
         digest = base64.b64encode(hashlib.sha256(script).digest()).decode()
         self.policy = f"default-src 'none'; script-src 'sha256-{digest}'; style-src 'unsafe-inline'; connect-src 'self'; img-src 'self' data:; base-uri 'none'; form-action 'none'; frame-ancestors 'none'"
         if wrong == "other-policy":
             self.policy += "; font-src *"
 
-    def respond(self, status, kind, body, closes=False):
+    def respond(self, status, kind, body, closes=False, more=()):
         """Returns a response with the headers that protect the page."""
         guards = {"cache-control": "no-store", "content-security-policy": self.policy, "x-content-type-options": "nosniff", "x-frame-options": "DENY"}
         guards |= {"cross-origin-resource-policy": "same-origin", "referrer-policy": "no-referrer"}
@@ -254,7 +260,7 @@ class Page:
             del guards["content-security-policy"]
         if self.wrong == "cors":
             guards["access-control-allow-origin"] = "*"
-        fields = {"content-type": kind, **guards, "content-length": len(body), **({"connection": "close"} if closes else {})}
+        fields = {"content-type": kind, **guards, "content-length": len(body), **({"connection": "close"} if closes else {}), **dict(more)}
         return f"HTTP/1.1 {status} {REASONS[status]}\r\n".encode() + b"".join(b"%s: %s\r\n" % (k.encode(), str(v).encode()) for k, v in fields.items()) + b"\r\n" + body
 
     def refuse(self, status, line):
@@ -265,21 +271,31 @@ class Page:
         names = [f"{name}{port}" for name in ("127.0.0.1", "localhost", "[::1]") for port in ([f":{self.port}", ""] if self.port == 80 else [f":{self.port}"])]
         hosts = [value for name, value in fields if name == "host"]
         place = urllib.parse.urlsplit(target)
-        if self.wrong != "no-target-check" and place.netloc or self.wrong != "no-host-check" and (len(hosts) != 1 or hosts[0] not in names):
+        if not self.is_own(place, hosts, names):
             return self.refuse(403, "this page is at 127.0.0.1 alone")
-        wanted = {"/": "GET", "/picture.svg": "GET", "/flat": "GET", "/read": "GET", "/write": "POST", "/swap": "POST"}.get(place.path)
+        wanted = ALLOWED.get(place.path)
         if wanted is None:
             return self.refuse(404, "there is nothing of that name")
-        if method != wanted and self.wrong != "no-method-check":
-            return self.refuse(405, "another method is wanted here")
-        if wanted == "POST" and self.wrong != "no-mark-check" and not any(name == "x-click-page" for name, _ in fields):
+        if (method not in wanted or method == "HEAD" and self.wrong == "no-head") and self.wrong != "no-method-check":
+            allow = {} if self.wrong == "no-allow" else {"allow": ", ".join(wanted)}
+            return self.respond(405, "text/plain; charset=utf-8", b"another method is wanted here\n", more=allow)
+        if "POST" in wanted and self.wrong != "no-mark-check" and not any(name == "x-click-page" for name, _ in fields):
             return self.refuse(403, "a write needs the header x-click-page")
-        pairs = urllib.parse.parse_qsl(place.query, keep_blank_values=True)
+        pairs = urllib.parse.parse_qsl(place.query, keep_blank_values=True, errors="replace" if self.wrong == "utf-8-names" else "surrogateescape")
         handlers = [value for name, value in pairs if name == "handler"]
         most = {"/read": 256, "/write": 1}.get(place.path)
-        if most and self.wrong != "any-query" and (len(handlers) != len(pairs) or not 1 <= len(handlers) <= most):
+        is_wrong = len(handlers) != len(pairs) or not 1 <= len(handlers) <= (most or 0) or self.wrong != "empty-handler" and "" in handlers
+        if most and self.wrong != "any-query" and is_wrong:
             return self.refuse(400, "the query names no handlers, or too many")
-        return self.say(place.path, handlers, body.decode(errors="replace"))
+        said = self.say(place.path, handlers, body.decode(errors="replace"))
+        return said.partition(b"\r\n\r\n")[0] + b"\r\n\r\n" if method == "HEAD" else said
+
+    def is_own(self, place, hosts, names):
+        """Returns whether the target, or else the only Host, names this page."""
+        if place.netloc and self.wrong != "no-target-check":
+            return self.wrong != "no-absolute-form" and place.scheme.lower() == "http" and place.netloc.lower() in names
+        hosts = hosts if self.wrong == "capital-hosts" else [it.lower() for it in hosts]
+        return self.wrong == "no-host-check" or len(hosts) == 1 and hosts[0] in names
 
     def say(self, path, handlers, text):
         """Returns the response of a path to a request that was not refused."""
@@ -291,6 +307,8 @@ class Page:
         if path == "/flat":
             flat = router.flat if self.wrong != "other-flat" else {**router.flat, "elements": router.flat["elements"][::-1]}
             return self.respond(200, "application/json", as_json(flat))
+        if path == "/metrics":
+            return self.respond(200, "text/plain; version=0.0.4; charset=utf-8", self.metrics().encode())
         if path == "/read":
             said = [entry(call(router.read, it)) for it in handlers]
             return self.respond(200, "application/json", as_json(self.read(handlers, said)))
@@ -304,6 +322,28 @@ class Page:
             return [{"value": self.first} if it == "config" else answer for it, answer in zip(handlers, said)]
         return said
 
+    def metrics(self):
+        """Returns the metrics of the running configuration, or wrong ones."""
+        groups = {"click_elements": ("gauge", [("", len(self.router.flat["elements"]))]), "click_overruns_total": ("counter", [("", 0)])}
+        for metric, kind, handlers in (("click_handler", "gauge", LEVELS), ("click_handler_total", "counter", TOTALS)):
+            groups[metric] = kind, [(labels, value) for handler, labels, value in self.numbers() if handler in handlers]
+        text = "click_elements many\n" if self.wrong == "bad-sample" else ""
+        for metric, (kind, samples) in groups.items():
+            kind = {"all-gauges": "gauge", "untyped": "untyped"}.get(self.wrong, kind)
+            text += "" if self.wrong == "no-types" else f"# TYPE {metric} {kind}\n"
+            text += "".join(f"{metric}{labels} {value}\n" for labels, value in samples)
+        return text
+
+    def numbers(self):
+        """Yields the read handlers of elements whose values are numbers, with labels and values."""
+        for element in self.router.flat["elements"]:
+            for handler in element["reads"]:
+                value = self.router.call(self.router.read, f"{element['name']}.{handler}")
+                if isinstance(value, str) and value.isdigit() and not (self.wrong == "less-metrics" and handler == "drops"):
+                    labels = f'{{element="{element["name"]}",class="{element["class"]}",handler="{handler}"}}'
+                    value = int(value) + (self.wrong == "other-metrics" and handler == "capacity")
+                    yield handler, labels, 7 if self.wrong == "still-metrics" else value
+
     def picture(self):
         """Returns the picture of the running configuration, or a wrong one."""
         picture = self.router.picture
@@ -313,8 +353,22 @@ class Page:
             picture = re.sub(r"<polyline [^>]*/>\n", "", picture, count=1)
         return picture.replace(">rt<", ">rx<") if self.wrong == "other-element" else picture
 
+    def make_room(self):
+        """Ends the connection that has waited longest for a request, if one waits and no slot is free."""
+        with self.lock:
+            if self.places or not self.waiting or self.wrong in ("no-room", "many-connections"):
+                return
+            choose = max if self.wrong == "other-room" else min
+            longest = choose(self.waiting, key=self.waiting.get)
+            del self.waiting[longest]
+            longest.shutdown(socket.SHUT_RDWR)
+        ends = time.monotonic() + 1
+        while self.places == 0 and time.monotonic() < ends:
+            time.sleep(0.01)
+
     def take(self, peer):
         """Takes a slot for a connection, or refuses it with status 503 and returns False."""
+        self.make_room()
         with self.lock:
             if self.places == 0 and self.wrong != "many-connections":
                 peer.sendall(self.respond(503, "text/plain; charset=utf-8", b"", True))
@@ -385,7 +439,10 @@ class Page:
         ends = None
         while b"\r\n\r\n" not in rest and (len(rest) <= MOST_HEAD or self.wrong == "long-heads") and rest.count(b"\n") == rest.count(b"\r\n"):
             peer.settimeout(SECONDS_BETWEEN if ends is None or self.wrong == "slow-heads" else max(0.01, ends - time.monotonic()))
+            if not rest:
+                self.waiting[peer] = time.monotonic()
             piece = peer.recv(65536)
+            self.waiting.pop(peer, None)
             if not piece:
                 return None, b""
             ends = ends or time.monotonic() + SECONDS_FOR_A_HEAD

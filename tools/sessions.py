@@ -330,14 +330,22 @@ def reading(program):
 
 
 def taken(program):
-    """Checks that the program ends with status 4 if its port is taken."""
+    """Checks that the program ends with status 4 if its port is taken, and names the port.
+
+    A fault of the configuration is reported first.
+    """
     with socket.socket() as other:
         other.bind(("127.0.0.1", 0))
         other.listen()
-        words = [program, "-e", "Idle -> Discard;", "-p", str(other.getsockname()[1]), "-n", "3"]
-        ended = subprocess.run(words, stdin=subprocess.DEVNULL, capture_output=True, timeout=SECONDS)
-    if (ended.returncode, ended.stdout, ended.stderr) != (4, b"", b""):
-        raise Wrong(f"a port that is taken: status {ended.returncode}, {ended.stdout!r}, {ended.stderr!r}")
+        port = other.getsockname()[1]
+        in_use = b"click_prog: sessions: cannot listen on 127.0.0.1:%d: Address already in use (os error 98)\n" % port
+        for text, status, wanted in (("Idle -> Discard;", 4, in_use), ("Idle -> ;", 1, b"click_prog: ")):
+            for options in (["-n", "3", "--book"], ["--live", "--idle", "1"]):
+                words = [program, "-e", text, "-p", str(port), *options]
+                ended = subprocess.run(words, stdin=subprocess.DEVNULL, capture_output=True, timeout=SECONDS)
+                is_wanted = ended.stderr == wanted if status == 4 else ended.stderr.startswith(wanted) and b"listen" not in ended.stderr
+                if (ended.returncode, ended.stdout) != (status, b"") or not is_wanted:
+                    raise Wrong(f"a port that is taken: status {ended.returncode}, {ended.stdout!r}, {ended.stderr!r}")
 
 
 def staying(program):

@@ -5,3 +5,4 @@ pub mod Leading
 pub mod Phases
 pub mod Readiness
 pub mod Steps
+pub mod Waiting

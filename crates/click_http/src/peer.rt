@@ -77,6 +77,7 @@ pub(crate) struct Peer {
 
 impl Peer {
     ghost use Rattle.click_http.specs.Readiness.{IsReadiness, IsNew, IsTimed, IsHalfClosed, IsVerdict, IsLimited, woken};
+    ghost use Rattle.click_http.specs.Waiting.{waited};
 
     pub(crate) fn new(alloc: Global, keys: RandomState, stream: TcpStream, now: Instant) -> Peer
         ensures { IsNew result now }
@@ -109,6 +110,18 @@ impl Peer {
             self.writable
         } else {
             self.readable || !self.connection.wants_read()
+        }
+    }
+
+    /// Returns how long the connection has only waited for a request, in nanoseconds: 0 if it does
+    /// something else, or if its socket may have something to read.
+    pub(crate) fn waited(&self, now: Instant) -> u128
+        ensures { result ≡ waited self.now now }
+    {
+        if self.timer.phase.is_idle() && !self.readable {
+            self.timer.age(now)
+        } else {
+            0
         }
     }
 

@@ -20,6 +20,7 @@ pub(crate) enum Phase {
 
 impl Phase {
     ghost use Rattle.click_http.specs.Phases.{limit_secs};
+    ghost use Rattle.click_http.specs.Waiting.{is_idle};
 
     /// Returns the maximum duration of the phase. In `Sending` it starts again with each part that
     /// the peer takes.
@@ -31,5 +32,12 @@ impl Phase {
             Phase::Begun | Phase::Sending => Duration::from_secs(10),
             Phase::HalfClosed => Duration::from_secs(2),
         }
+    }
+
+    /// Returns whether the connection waits for a request.
+    pub(crate) fn is_idle(self) -> bool
+        ensures { result ≡ is_idle self }
+    {
+        matches!(self, Phase::Idle)
     }
 }

@@ -1,10 +1,11 @@
 //! The sockets of a listener and of its connections.
 
-ghost use Rattle.std.specs.Prelude.{◌≡◌, ◌<◌, ◌≤◌, ◌↔◌, length, fold, IfSome, OnOk, OnErr, IsTrue, Any};
+ghost use Rattle.std.specs.Prelude.{◌≡◌, ◌<◌, ◌≤◌, ◌↔◌, length, fold, IfSome, MatchOption, OnOk, OnErr, IsTrue, Any};
 ghost use Rattle.std.specs.Duration.{as_nanos};
 ghost use Rattle.mio.specs.Events.{items};
 ghost use Rattle.click_http.specs.Accepting.{IsAsked, tick_nanos};
 ghost use Rattle.click_http.specs.Readiness.{IsPlaceReady, HasWork, woken_place, noted_state, noted_places};
+ghost use Rattle.click_http.specs.Waiting.{IsClosed, IsFreed, IsLongest, NoneWaits, waited_in};
 
 use crate::accept_state::AcceptState;
 use crate::peer::{Peer, refuse};
@@ -46,6 +47,60 @@ fn free_place(places: &[Option<Peer>]) -> Option<usize>
     ensures { IfSome result (λ place. place < length places.now) }
 {
     places.iter().position(|place| place.is_none())
+}
+
+/// Returns how long the connection in a slot has only waited for a request, in nanoseconds.
+fn waited_in(place: &Option<Peer>, now: Instant) -> u128
+    ensures { result ≡ waited_in place.now now }
+{
+    match place {
+        Some(peer) => peer.waited(now),
+        None => 0,
+    }
+}
+
+/// Returns the index of the slot whose connection has waited longest for a request, or `None` if no
+/// connection waits.
+fn longest_waiting(places: &[Option<Peer>], now: Instant) -> Option<usize>
+    ensures { MatchOption result (NoneWaits places.now now) (λ place. IsLongest places.now now place) }
+{
+    let mut longest = 0;
+    let mut found = None;
+    for at in 0..places.len() {
+        let waited = waited_in(&places[at], now);
+        if longest < waited {
+            longest = waited;
+            found = Some(at);
+        }
+    }
+    found
+}
+
+/// Closes the connection that has waited longest for a request, if any waits. Returns the index of
+/// its slot.
+fn close_longest(places: &mut [Option<Peer>], now: Instant) -> Option<usize>
+    ensures freed { MatchOption result ((places.new ≡ places.old) × NoneWaits places.old now) (IsClosed places.old places.new now) }
+    ensures count { length places.new ≡ length places.old }
+{
+    match longest_waiting(places, now) {
+        Some(place) => {
+            places[place] = None;
+            Some(place)
+        }
+        None => None,
+    }
+}
+
+/// Returns the index of a free slot. If there is none, closes the connection that has waited
+/// longest for a request, if any waits.
+fn freed_place(places: &mut [Option<Peer>], now: Instant) -> Option<usize>
+    ensures freed { MatchOption result ((places.new ≡ places.old) × NoneWaits places.old now) (IsFreed places.old places.new now) }
+    ensures count { length places.new ≡ length places.old }
+{
+    match free_place(places) {
+        Some(place) => Some(place),
+        None => close_longest(places, now),
+    }
 }
 
 fn empty_places(alloc: Global) -> Result<Vec<Option<Peer>>, AllocError> {
@@ -155,12 +210,13 @@ impl Sockets {
         Ok(())
     }
 
-    /// Gives a connection a free slot, or refuses it.
+    /// Gives a connection a free slot, or refuses it. If no slot is free, the connection that has
+    /// waited longest for a request is closed first.
     fn admit(&mut self, alloc: Global, stream: TcpStream, now: Instant)
         ensures { self.new.accept_state ≡ self.old.accept_state }
     {
         let mut stream = stream;
-        let Some(place) = free_place(&self.places) else {
+        let Some(place) = freed_place(&mut self.places, now) else {
             return refuse(stream);
         };
         // Without it, the second part of a response would be held back until the peer acknowledges

@@ -26,12 +26,21 @@ pub(crate) enum Verdict {
 
 impl Timer {
     ghost use Rattle.click_http.specs.Phases.{begins, IsInTime, NotesBytes, NotesCall};
+    ghost use Rattle.click_http.specs.Waiting.{age};
 
     /// Returns a phase that begins now.
     pub(crate) fn begin(phase: Phase, now: Instant) -> Timer
         ensures { result ≡ begins phase now }
     {
         Timer { phase, since: now }
+    }
+
+    /// Returns the nanoseconds since the phase began.
+    pub(crate) fn age(&self, now: Instant) -> u128
+        ensures { result ≡ age self.now now }
+    {
+        let age = now.duration_since(self.since);
+        age.as_nanos()
     }
 
     /// Returns whether the phase is within its limit.

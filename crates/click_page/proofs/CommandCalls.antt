@@ -1,5 +1,6 @@
 -- Lemmas on the calls of commands, and on making them.
 use Rattle.std.proofs.Common.{◌≡◌, ℕ, Bool, true, false, List, [], ◌∷◌, ◌++◌, length, map, Option, None, Some, Result, refl, sym, ap, subst, ◌∙◌, length-append, arith}
+use Rattle.std.specs.Prelude.{IfSome}
 use Rattle.click_router.specs.declared.call.Call.{Call}
 use Rattle.click_router.specs.declared.call.Reply.{Reply}
 use Rattle.click_control.specs.declared.port.AskFault.{AskFault}
@@ -8,12 +9,20 @@ use Rattle.click_control.specs.declared.command.Command.{Command}
 use Rattle.click_control.specs.declared.command.Command.TheVariants as command
 use Rattle.click_control.specs.Serving.{Answered, Asked, nothing, then_one, call_of}
 use Rattle.click_page.specs.Asking.{reading}
+use Rattle.click_page.specs.Metrics.{full_name, later}
+use Rattle.click_page.specs.declared.sample.Sample.{Sample}
+use Rattle.click_page.specs.declared.survey.Survey.{Survey}
 use Rattle.click_page.specs.kept.Calls.{AreNoPolls, read_call}
 
 -- the calls that read handlers are those of the commands that read them
 pub reading_calls : (readonly : Bool) (handlers : List (List ℕ)) → map read_call handlers ≡ map (call_of readonly) (map reading handlers)
 reading_calls readonly [] = refl
 reading_calls readonly (h ∷ handlers) = ap (λ cs. read_call h ∷ cs) (reading_calls readonly handlers)
+
+-- there is a read for each sample
+reads-length : (samples : List Sample) → length (map reading (map full_name samples)) ≡ length samples
+reads-length [] = refl
+reads-length (s ∷ samples) = omega (arith, reads-length samples)
 
 -- no command makes a Poll
 pub made_no_polls : (readonly : Bool) (commands : List Command) → AreNoPolls (map (call_of readonly) commands)
@@ -77,3 +86,9 @@ module _ {P : Type 0} (asks : P → Call → Result Reply AskFault → P → Typ
   asked-each readonly _ _ _ _ (nothing p) = refl
   asked-each readonly _ _ _ _ (then_one p mid q cs answers c a before step) =
       omega (arith, asked-each readonly p cs answers mid before, length-append cs (c ∷ []), length-append answers (a ∷ []))
+
+  -- each sample of a survey has its answer
+  pub survey-each : (readonly : Bool) (p : P) (survey : Option Survey) (values : List Answer) (q : P) → Asked asks readonly p (later survey) values q
+      → IfSome survey (λ s. length values ≡ length s.samples)
+  survey-each readonly p None values q asked = tt
+  survey-each readonly p (Some s) values q asked = asked-each readonly p (map reading (map full_name s.samples)) values q asked ∙ reads-length s.samples

@@ -1,17 +1,19 @@
 -- Lemmas on what requests ask for.
-use Rattle.std.proofs.Common.{◌≡◌, ℕ, ◌≤◌, List, [], ◌∷◌, length, map, Bool, true, false, not, ◌&&◌, nat_le, Option, Some, None, codes, bytes_eq, if◌then◌else◌, refl, sym, ap, subst, ◌∙◌, arith}
+use Rattle.std.proofs.Common.{◌≡◌, ℕ, ◌≤◌, List, [], ◌∷◌, length, map, Bool, true, false, not, ◌&&◌, ◌||◌, nat_le, Option, Some, None, codes, bytes_eq, if◌then◌else◌, refl, sym, ap, subst, ◌∙◌, arith}
 use Rattle.std.specs.List.{list_all}
 use Rattle.std.proofs.lemmas.Bool.Decides.{nat_tests}
 use Rattle.std.proofs.lemmas.Grind.{common_steps}
 use Rattle.http.specs.declared.request.Parts.{Parts}
 use Rattle.http_uri.specs.Uri.{uri_path}
-use Rattle.click_page.specs.Asking.{are_handlers, request_at, request_on_route, commands_of, handlers_in, if_allowed, has_page_header, is_for_own_host, is_write, method_at, pairs_of, route_of, read_of, reading, parse_request, write_of, write_to}
+use Rattle.click_page.specs.Asking.{are_handlers, request_at, request_on_route, commands_of, handlers_in, if_allowed, has_page_header, is_for_own_host, is_method_at, is_write, pairs_of, route_of, read_of, reading, parse_request, write_of, write_to, wrong_method}
+use Rattle.click_page.specs.Metrics.{full_name, later}
 use Rattle.click_page.specs.Reads.{AreReads, MakeReads, is_read, is_read_call}
 use Rattle.click_page.specs.declared.route.Route.{Route}
 use Rattle.click_page.specs.declared.route.Route.TheVariants as route
 use Rattle.click_page.specs.declared.page_request.PageRequest.{PageRequest}
 use Rattle.click_page.specs.declared.page_request.PageRequest.TheVariants as page_request
 use Rattle.click_page.specs.declared.page_request.RequestRefusal.TheVariants as refusal
+use Rattle.click_page.specs.declared.survey.Survey.{Survey}
 
 pub foreign : (port : ℕ) (head : Parts) (body : List ℕ) → is_for_own_host port head ≡ false → commands_of (parse_request port head body) ≡ []
 unfolding parse_request
@@ -44,13 +46,13 @@ place_reads _ head body e = refl
 
 -- a write needs the method and the header
 write_gate : (method marked : Bool) (w : PageRequest) → (marked && method) ≡ false
-    → OnlyReads (if method then (if not marked then page_request.Refused refusal.MissingHeader else w) else page_request.Refused refusal.WrongMethod)
+    → OnlyReads (if method then (if not marked then page_request.Refused refusal.MissingHeader else w) else page_request.Refused refusal.WantsPost)
 unfolding OnlyReads
 write_gate true true w e = absurd (cc)
 write_gate true false w e = refl
 write_gate false marked w e = refl
 
-read_gate : (method : Bool) (w : PageRequest) → OnlyReads w → OnlyReads (if method then w else page_request.Refused refusal.WrongMethod)
+read_gate : (method : Bool) (w : PageRequest) → OnlyReads w → OnlyReads (if method then w else page_request.Refused refusal.WantsGet)
 unfolding OnlyReads
 read_gate true w h = h
 read_gate false w h = refl
@@ -59,7 +61,7 @@ allowed_reads : (p : Route) (head : Parts) (w : PageRequest) → (has_page_heade
     → OnlyReads (if_allowed p head w)
 allowed_reads route.Write head w e h = write_gate (bytes_eq head.method (codes "POST")) (has_page_header head) w e
 allowed_reads route.Swap head w e h = write_gate (bytes_eq head.method (codes "POST")) (has_page_header head) w e
-allowed_reads _ head w e h = read_gate (bytes_eq head.method (codes "GET")) w (h refl)
+allowed_reads _ head w e h = read_gate (bytes_eq head.method (codes "GET") || bytes_eq head.method (codes "HEAD")) w (h refl)
 
 asked_reads : (o : Option Route) (head : Parts) (body : List ℕ) → (has_page_header head && bytes_eq head.method (codes "POST")) ≡ false
     → OnlyReads (request_at o head body)
@@ -121,7 +123,7 @@ asked_few (Some p) head body =
     let none : 0 ≤ 256 = omega arith in
     let asked = request_on_route p head body in
     let stops = is_write p && not (has_page_header head) in
-    either Q (bytes_eq head.method (method_at p)) (if stops then page_request.Refused refusal.MissingHeader else asked) (page_request.Refused refusal.WrongMethod)
+    either Q (is_method_at p head.method) (if stops then page_request.Refused refusal.MissingHeader else asked) (wrong_method p)
     (either Q stops (page_request.Refused refusal.MissingHeader) asked none (place_few p head body)) none
 
 pub few : (port : ℕ) (head : Parts) (body : List ℕ) → length (commands_of (parse_request port head body)) ≤ 256
@@ -132,10 +134,16 @@ few port head body =
 
 -- ---- a read-only page
 
-made_readings : (handlers : List (List ℕ)) → MakeReads true (map reading handlers)
-made_readings [] = refl
-made_readings (h ∷ handlers) = made_readings handlers
+made_readings : (readonly : Bool) (handlers : List (List ℕ)) → MakeReads readonly (map reading handlers)
+made_readings readonly [] = refl
+made_readings readonly (h ∷ handlers) = made_readings readonly handlers
 
 pub only_reads : (w : PageRequest) → MakeReads true (commands_of w)
-only_reads (page_request.Read handlers) = made_readings handlers
+only_reads (page_request.Read handlers) = made_readings true handlers
 only_reads _ = refl
+
+-- ---- what follows the first answers
+
+pub later_reads : (readonly : Bool) (survey : Option Survey) → AreReads (later survey) × MakeReads readonly (later survey)
+later_reads readonly None = (refl, refl)
+later_reads readonly (Some s) = (readings (map full_name s.samples), made_readings readonly (map full_name s.samples))

@@ -1,12 +1,12 @@
 -- What a request asks for, and the commands of a session that it makes.
-use Rattle.std.specs.Prelude.{ℕ, ◌≤◌, ◌==◌, List, [], ◌∷◌, ◌++◌, length, map, Bool, true, false, not, ◌&&◌, nat_le, Option, Some, None, is_none, unwrap_or, codes, decimal, bytes_eq, if◌then◌else◌}
+use Rattle.std.specs.Prelude.{ℕ, ◌≤◌, ◌==◌, List, [], ◌∷◌, ◌++◌, length, map, Bool, true, false, not, ◌&&◌, ◌||◌, nat_le, Option, Some, None, unwrap_or, codes, decimal, bytes_eq, if◌then◌else◌}
 use Rattle.std.specs.List.{list_any, list_all}
-use Rattle.std.specs.Str.Lossy.{utf8_lossy}
-use Rattle.form_urlencoded.specs.Form.{raw_pairs, decode}
+use Rattle.std.specs.Char.{to_ascii_lowercase}
+use Rattle.form_urlencoded.specs.Form.{raw_pairs, decode, is_nonempty}
 use Rattle.http.specs.declared.request.Parts.{Parts}
 use Rattle.http_header.specs.HeaderMap.{get_all}
 use Rattle.http_header.specs.FieldValue.{FieldValue}
-use Rattle.http_uri.specs.Uri.{uri_authority, uri_path, uri_query}
+use Rattle.http_uri.specs.Uri.{uri_authority, uri_path, uri_query, uri_scheme}
 use Rattle.click_control.specs.declared.command.Command.{Command}
 use Rattle.click_control.specs.declared.command.Command.TheVariants as command
 use Rattle.click_page.specs.declared.route.Route.{Route}
@@ -27,16 +27,32 @@ at_port port name = name ++ (codes ":" ++ port)
 unfoldable pub own_hosts : ℕ → List (List ℕ)
 own_hosts port = map (at_port (decimal port)) own_names ++ (if port == 80 then own_names else [])
 
+-- these bytes, in small letters
+abbrev pub lowercase : List ℕ → List ℕ
+lowercase bytes = map to_ascii_lowercase bytes
+
+-- the host is one of these names; host names are compared without regard to case
+abbrev pub is_among : List (List ℕ) → List ℕ → Bool
+is_among names host = list_any (bytes_eq (lowercase host)) names
+
 -- there is exactly one value, and it is one of these names
 abbrev pub is_one_of : List (List ℕ) → List FieldValue → Bool
 is_one_of names [] = false
-is_one_of names (value ∷ []) = list_any (bytes_eq value.bytes) names
+is_one_of names (value ∷ []) = is_among names value.bytes
 is_one_of names (first ∷ second ∷ rest) = false
 
--- The request is for the page at this port: it has exactly one Host field, which names the page,
--- and its target names no host.
+-- The scheme and the authority of a target, and the values of Host, name one of these hosts. A
+-- target in the absolute form names the host itself, and Host is then ignored (RFC 9112, 3.2.2). A
+-- target with an authority alone, as CONNECT has it, names no page.
+abbrev pub names_one_of : List (List ℕ) → Option (List ℕ) → Option (List ℕ) → List FieldValue → Bool
+names_one_of names scheme None hosts = is_one_of names hosts
+names_one_of names None (Some authority) hosts = false
+names_one_of names (Some scheme) (Some authority) hosts = bytes_eq (lowercase scheme) (codes "http") && is_among names authority
+
+-- The request is for the page at this port: its target in the absolute form names the page, or it
+-- has exactly one Host field, which names the page.
 abbrev pub is_for_own_host : ℕ → Parts → Bool
-is_for_own_host port head = is_none (uri_authority head.uri) && is_one_of (own_hosts port) (get_all head.headers (codes "host"))
+is_for_own_host port head = names_one_of (own_hosts port) (uri_scheme head.uri) (uri_authority head.uri) (get_all head.headers (codes "host"))
 
 -- the request has the header that browsers do not let a page of another origin send
 abbrev pub has_page_header : Parts → Bool
@@ -46,13 +62,13 @@ has_page_header head = nat_le 1 (length (get_all head.headers (codes "x-click-pa
 abbrev pub pairs_of : Parts → List (List ℕ × List ℕ)
 pairs_of head = raw_pairs (unwrap_or (uri_query head.uri) [])
 
--- each name is `handler`
+-- each name is `handler`, and each value has bytes
 abbrev pub are_handlers : List (List ℕ × List ℕ) → Bool
-are_handlers pairs = list_all (λ p. bytes_eq p.0 (codes "handler")) pairs
+are_handlers pairs = list_all (λ p. bytes_eq p.0 (codes "handler") && is_nonempty p.1) pairs
 
 -- the handlers that the values name, decoded
 abbrev pub handlers_in : List (List ℕ × List ℕ) → List (List ℕ)
-handlers_in pairs = map (λ p. utf8_lossy (decode p.1)) pairs
+handlers_in pairs = map (λ p. decode p.1) pairs
 
 -- what a query asks to read: from 1 to 256 handlers
 abbrev pub read_of : List (List ℕ × List ℕ) → PageRequest
@@ -78,7 +94,8 @@ route_of path =
     else (if bytes_eq path (codes "/read") then Some route.Read
     else (if bytes_eq path (codes "/write") then Some route.Write
     else (if bytes_eq path (codes "/swap") then Some route.Swap
-    else None)))))
+    else (if bytes_eq path (codes "/metrics") then Some route.Metrics
+    else None))))))
 
 -- whether requests for a route write
 abbrev pub is_write : Route → Bool
@@ -86,12 +103,17 @@ is_write route.Page = false
 is_write route.Picture = false
 is_write route.Flat = false
 is_write route.Read = false
+is_write route.Metrics = false
 is_write route.Write = true
 is_write route.Swap = true
 
--- the method of requests for a route
-abbrev pub method_at : Route → List ℕ
-method_at p = if is_write p then codes "POST" else codes "GET"
+-- whether requests for a route may have this method
+abbrev pub is_method_at : Route → List ℕ → Bool
+is_method_at p method = if is_write p then bytes_eq method (codes "POST") else (bytes_eq method (codes "GET") || bytes_eq method (codes "HEAD"))
+
+-- the refusal of another method at a route
+abbrev pub wrong_method : Route → PageRequest
+wrong_method p = page_request.Refused (if is_write p then refusal.WantsPost else refusal.WantsGet)
 
 -- what a request for this route asks for
 unfoldable pub request_on_route : Route → Parts → List ℕ → PageRequest
@@ -101,13 +123,14 @@ request_on_route route.Flat head body = page_request.Flat
 request_on_route route.Read head body = read_of (pairs_of head)
 request_on_route route.Write head body = write_of (pairs_of head) body
 request_on_route route.Swap head body = page_request.Write (codes "hotconfig") body
+request_on_route route.Metrics head body = page_request.Metrics
 
--- what is asked for if the request has the route's method, and for a write the header
+-- what is asked for if the request has a method of the route, and for a write the header
 abbrev pub if_allowed : Route → Parts → PageRequest → PageRequest
 if_allowed p head w =
-    if bytes_eq head.method (method_at p)
+    if is_method_at p head.method
     then (if is_write p && not (has_page_header head) then page_request.Refused refusal.MissingHeader else w)
-    else page_request.Refused refusal.WrongMethod
+    else wrong_method p
 
 -- what a request for this page's own host asks for; the route is none if its path is unknown
 unfoldable pub request_at : Option Route → Parts → List ℕ → PageRequest
@@ -126,11 +149,13 @@ abbrev pub reading : List ℕ → Command
 reading handler = command.Read handler []
 
 -- The commands of a session that a request makes. A picture or a flat form is made from the running
--- configuration, which is read.
+-- configuration, which is read. For metrics it is read first, and then says what else is read
+-- (`later`).
 abbrev pub commands_of : PageRequest → List Command
 commands_of page_request.Page = []
 commands_of page_request.Picture = reading (codes "config") ∷ []
 commands_of page_request.Flat = reading (codes "config") ∷ []
 commands_of (page_request.Read handlers) = map reading handlers
 commands_of (page_request.Write handler text) = command.Write handler text ∷ []
+commands_of page_request.Metrics = reading (codes "config") ∷ reading (codes "overruns") ∷ []
 commands_of (page_request.Refused why) = []

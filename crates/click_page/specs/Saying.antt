@@ -1,5 +1,5 @@
 -- The response to a request.
-use Rattle.std.specs.Prelude.{◌⊎◌, ℕ, List, [], ◌∷◌, map, true, codes}
+use Rattle.std.specs.Prelude.{◌⊎◌, ℕ, List, [], ◌∷◌, ◌++◌, map, true, codes, Option, Some, None}
 use Rattle.serde_json.specs.Data.{Data, no_members, member, boolean, number, object, unsigned}
 use Rattle.serde_json.specs.Written.{compact_text}
 use Rattle.http1.specs.Fields.{Header}
@@ -18,6 +18,7 @@ use Rattle.click_control.specs.declared.command.Answer.TheVariants as answer
 use Rattle.click_page.specs.Asking.{reading}
 use Rattle.click_draw.specs.Drawn.{IsPicture}
 use Rattle.click_page.specs.Form.{IsFlatText, bytes_data, list_data}
+use Rattle.click_page.specs.Metrics.{metrics_text}
 use Rattle.click_page.specs.declared.content_kind.ContentKind.{ContentKind}
 use Rattle.click_page.specs.declared.content_kind.ContentKind.TheVariants as kind
 use Rattle.click_page.specs.declared.page_text.TheConstants.{PAGE, POLICY}
@@ -25,6 +26,7 @@ use Rattle.click_page.specs.declared.page_request.PageRequest.{PageRequest}
 use Rattle.click_page.specs.declared.page_request.PageRequest.TheVariants as page_request
 use Rattle.click_page.specs.declared.page_request.RequestRefusal.{RequestRefusal}
 use Rattle.click_page.specs.declared.page_request.RequestRefusal.TheVariants as why
+use Rattle.click_page.specs.declared.survey.Survey.{Survey}
 
 abbrev pub value_data : List ℕ → Data
 value_data bytes = object (member (codes "value") (bytes_data bytes) no_members)
@@ -69,6 +71,7 @@ type_name kind.Html = codes "text/html; charset=utf-8"
 type_name kind.Svg = codes "image/svg+xml"
 type_name kind.Json = codes "application/json"
 type_name kind.Text = codes "text/plain; charset=utf-8"
+type_name kind.Metrics = codes "text/plain; version=0.0.4; charset=utf-8"
 
 abbrev pub fields_for : ContentKind → List Header
 fields_for k = (codes "content-type", type_name k) ∷ guards
@@ -80,16 +83,24 @@ Says status k body r = IsResponse status (fields_for k) body r
 abbrev pub status_of : RequestRefusal → ℕ
 status_of why.ForeignHost = 403
 status_of why.NotFound = 404
-status_of why.WrongMethod = 405
+status_of why.WantsGet = 405
+status_of why.WantsPost = 405
 status_of why.MissingHeader = 403
 status_of why.WrongQuery = 400
 
 abbrev pub refusal_line : RequestRefusal → List ℕ
 refusal_line why.ForeignHost = codes "this page is at 127.0.0.1 alone\n"
 refusal_line why.NotFound = codes "there is nothing of that name\n"
-refusal_line why.WrongMethod = codes "another method is wanted here\n"
+refusal_line why.WantsGet = codes "another method is wanted here\n"
+refusal_line why.WantsPost = codes "another method is wanted here\n"
 refusal_line why.MissingHeader = codes "a write needs the header x-click-page\n"
 refusal_line why.WrongQuery = codes "the query names no handlers, or too many\n"
+
+-- the methods of the path, which a refusal of another method names
+abbrev pub allow_of : RequestRefusal → List Header
+allow_of why.WantsGet = (codes "allow", codes "GET, HEAD") ∷ []
+allow_of why.WantsPost = (codes "allow", codes "POST") ∷ []
+allow_of w = []
 
 -- The response to a request for the picture or the flat form, by the answer to the read of the
 -- configuration. It is what was made of the text, or the first fault of the text. If the read gave
@@ -106,15 +117,23 @@ SaysOne k Makes [] r = ⊥
 SaysOne k Makes (a ∷ []) r = SaysMade k Makes a r
 SaysOne k Makes (a ∷ b ∷ answers) r = ⊥
 
--- The response to a request whose commands were answered in this way.
-abbrev pub SaysFor : PageRequest → List Answer → Response → Type 0
-SaysFor page_request.Page answers r = Says 200 kind.Html PAGE.now r
-SaysFor page_request.Picture answers r = SaysOne kind.Svg IsPicture answers r
-SaysFor page_request.Flat answers r = SaysOne kind.Json IsFlatText answers r
-SaysFor (page_request.Read handlers) answers r = Says 200 kind.Json (compact_text (list_data (entries_of (map reading handlers) answers))) r
-SaysFor (page_request.Write handler text) [] r = ⊥
-SaysFor (page_request.Write handler text) (a ∷ answers) r = Says 200 kind.Json (compact_text (entry_of (command.Write handler text) a)) r
-SaysFor (page_request.Refused why) answers r = Says (status_of why) kind.Text (refusal_line why) r
+-- The response to a request for metrics: the metrics, or 503 if the running configuration was not
+-- read.
+abbrev pub SaysMetrics : Option Survey → List Answer → List Answer → Response → Type 0
+SaysMetrics (Some s) answers values r = Says 200 kind.Metrics (metrics_text s answers values) r
+SaysMetrics None answers values r = Says 503 kind.Text (codes "the running configuration was not read\n") r
+
+-- The response to a request whose commands were answered in this way, and whose survey had these
+-- values.
+abbrev pub SaysFor : PageRequest → List Answer → Option Survey → List Answer → Response → Type 0
+SaysFor page_request.Page answers survey values r = Says 200 kind.Html PAGE.now r
+SaysFor page_request.Picture answers survey values r = SaysOne kind.Svg IsPicture answers r
+SaysFor page_request.Flat answers survey values r = SaysOne kind.Json IsFlatText answers r
+SaysFor (page_request.Read handlers) answers survey values r = Says 200 kind.Json (compact_text (list_data (entries_of (map reading handlers) answers))) r
+SaysFor (page_request.Write handler text) [] survey values r = ⊥
+SaysFor (page_request.Write handler text) (a ∷ answers) survey values r = Says 200 kind.Json (compact_text (entry_of (command.Write handler text) a)) r
+SaysFor page_request.Metrics answers survey values r = SaysMetrics survey answers values r
+SaysFor (page_request.Refused why) answers survey values r = IsResponse (status_of why) (fields_for kind.Text ++ allow_of why) (refusal_line why) r
 
 -- out of memory: status 503 without fields or body
 abbrev pub SaysNoMemory : Response → Type 0

@@ -30,6 +30,10 @@ pub(crate) fn calls_of(
         PageRequest::Picture | PageRequest::Flat => {
             Ok(Vec::from_array(alloc, [read_call(alloc, b"config")?])?)
         }
+        PageRequest::Metrics => {
+            let calls = [read_call(alloc, b"config")?, read_call(alloc, b"overruns")?];
+            Ok(Vec::from_array(alloc, calls)?)
+        }
         PageRequest::Read { handlers } => read_calls(alloc, handlers.as_slice()),
         PageRequest::Write { handler, text } => {
             let call = write_call(alloc, handler.as_slice(), text.as_slice(), readonly)?;
@@ -39,7 +43,10 @@ pub(crate) fn calls_of(
 }
 
 /// Returns the calls that read these handlers.
-fn read_calls(alloc: Global, handlers: &[Sequence<u8>]) -> Result<Vec<Option<Call>>, AllocError>
+pub(crate) fn read_calls(
+    alloc: Global,
+    handlers: &[Sequence<u8>],
+) -> Result<Vec<Option<Call>>, AllocError>
     ensures { IfOk result (λ calls. calls.items ≡ map read_call handlers.now) }
 {
     let mut calls = Vec::with_capacity(alloc, handlers.len())?;

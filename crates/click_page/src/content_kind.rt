@@ -7,4 +7,6 @@ pub enum ContentKind {
     Svg,
     Json,
     Text,
+    /// Prometheus' text format 0.0.4.
+    Metrics,
 }

@@ -24,11 +24,18 @@ fn type_name(kind: ContentKind) -> HeaderValue
         ContentKind::Svg => HeaderValue::from_static("image/svg+xml"),
         ContentKind::Json => HeaderValue::from_static("application/json"),
         ContentKind::Text => HeaderValue::from_static("text/plain; charset=utf-8"),
+        ContentKind::Metrics => {
+            HeaderValue::from_static("text/plain; version=0.0.4; charset=utf-8")
+        }
     }
 }
 
 /// Adds a header field.
-fn add(response: &mut Response, name: &'static str, value: &'static str) -> Result<(), AllocError>
+pub(crate) fn add(
+    response: &mut Response,
+    name: &'static str,
+    value: &'static str,
+) -> Result<(), AllocError>
     requires name { IsTrue (is_header_name name.now) }
     requires value { IsTrue (is_visible_text value.now) }
     ensures added { OnOk result (fields_of response.new ≡ fields_of response.old ++ (name.now, value.now) ∷ []) }

@@ -20,6 +20,8 @@ pub enum PageRequest {
         handler: Sequence<u8>,
         text: Sequence<u8>,
     },
+    /// The metrics of the running configuration.
+    Metrics,
     /// Nothing: the request is refused, and makes no call.
     Refused(RequestRefusal),
 }
@@ -32,13 +34,17 @@ pub enum RequestRefusal {
     ForeignHost,
     #[error("there is nothing of that name")]
     NotFound,
+    /// The path needs GET or HEAD.
     #[error("another method is wanted here")]
-    WrongMethod,
+    WantsGet,
+    /// The path needs POST.
+    #[error("another method is wanted here")]
+    WantsPost,
     /// It is a write, and lacks the header that browsers do not let a page of another origin send.
     #[error("a write needs the header x-click-page")]
     MissingHeader,
-    /// Its query has a parameter other than `handler`, no handler, more than one for a write, or
-    /// more than 256.
+    /// Its query has a parameter other than `handler`, no handler, an empty one, more than one for
+    /// a write, or more than 256.
     #[error("the query names no handlers, or too many")]
     WrongQuery,
 }

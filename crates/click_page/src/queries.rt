@@ -1,13 +1,13 @@
 //! The handlers that a query names.
 
-ghost use Rattle.std.specs.Prelude.{◌≡◌, ◌<◌, ◌^◌, length, Some, None, if◌then◌else◌, IfOk};
-ghost use Rattle.form_urlencoded.specs.Form.{decode, raw_pairs};
-ghost use Rattle.std.specs.Str.Lossy.{utf8_lossy};
+ghost use Rattle.std.specs.Prelude.{◌≡◌, ◌<◌, ◌^◌, length, map, Some, None, if◌then◌else◌, IfOk};
+ghost use Rattle.form_urlencoded.specs.Form.{decode, plus_to_space, raw_pairs};
 ghost use Rattle.click_page.specs.Asking.{are_handlers, handlers_in, read_of, write_of};
 
 use crate::page_request::{PageRequest, RequestRefusal};
 use click_base::sequence::Sequence;
-use form_urlencoded::{decode, raw_pairs};
+use form_urlencoded::raw_pairs;
+use percent_encoding::percent_decode;
 use std::alloc::{AllocError, Global};
 
 /// The maximum number of handlers that a request reads.
@@ -41,13 +41,14 @@ pub(crate) fn write_of(alloc: Global, query: &[u8], text: &[u8]) -> Result<PageR
     }
 }
 
-/// Returns the number of handlers of a query, or `None` if it has a parameter of another name.
+/// Returns the number of handlers of a query, or `None` if it has a parameter of another name or
+/// without a value.
 fn handler_count(query: &[u8]) -> Option<usize>
     ensures { result ≡ (if are_handlers (raw_pairs query.now) then Some (length (raw_pairs query.now)) else None) }
 {
     let mut count = 0;
-    for (name, _) in raw_pairs(query) {
-        if name != b"handler".as_slice() {
+    for (name, value) in raw_pairs(query) {
+        if name != b"handler".as_slice() || value.is_empty() {
             return None;
         }
         count += 1;
@@ -66,9 +67,23 @@ fn handlers_in(alloc: Global, query: &[u8]) -> Result<Vec<Sequence<u8>>, AllocEr
     Ok(handlers)
 }
 
-/// Decodes a value. Bytes that are not UTF-8 become U+FFFD.
-fn decoded(alloc: Global, value: &[u8]) -> Result<Sequence<u8>, AllocError>
-    ensures { IfOk result (λ text. text ≡ utf8_lossy (decode value.now)) }
+/// Returns a copy of the bytes with a space for each `+`.
+fn with_spaces(alloc: Global, value: &[u8]) -> Result<Vec<u8>, AllocError>
+    ensures { IfOk result (λ text. text.items ≡ map plus_to_space value.now) }
 {
-    Ok(Sequence::of(decode(alloc, value)?.into_owned(alloc)?.into_bytes()))
+    let mut text = Vec::new(alloc);
+    for byte in value {
+        text.push(if *byte == b'+' { b' ' } else { *byte })?;
+    }
+    Ok(text)
+}
+
+/// Decodes a value. Its bytes need not be UTF-8.
+fn decoded(alloc: Global, value: &[u8]) -> Result<Sequence<u8>, AllocError>
+    ensures { IfOk result (λ text. text ≡ decode value.now) }
+{
+    let encoded = with_spaces(alloc, value)?;
+    let mut text = Vec::new(alloc);
+    percent_decode(encoded.as_slice()).append_to(&mut text)?;
+    Ok(Sequence::of(text))
 }

@@ -24,7 +24,7 @@ pub fn parse_request(
 ) -> Result<PageRequest, AllocError>
     ensures { IfOk result (λ w. w ≡ parse_request port (head_of request.now) (body_of request.now)) }
 {
-    if is_for_own_host(port, request) {
+    if is_for_own_host(alloc, port, request)? {
         request_at(alloc, route_of(request.uri().path()), request)
     } else {
         Ok(PageRequest::Refused(RequestRefusal::ForeignHost))
@@ -44,9 +44,12 @@ fn request_at(
     let Some(route) = route else {
         return Ok(PageRequest::Refused(RequestRefusal::NotFound));
     };
-    let method = if route.is_write() { "POST" } else { "GET" };
-    if request.method().as_str() != method {
-        return Ok(PageRequest::Refused(RequestRefusal::WrongMethod));
+    if !route.has_method(request.method().as_str().as_bytes()) {
+        return Ok(PageRequest::Refused(if route.is_write() {
+            RequestRefusal::WantsPost
+        } else {
+            RequestRefusal::WantsGet
+        }));
     }
     if route.is_write() && !has_page_header(request) {
         return Ok(PageRequest::Refused(RequestRefusal::MissingHeader));
@@ -73,6 +76,7 @@ fn request_on_route(
             handler: Sequence::copy_of(alloc, b"hotconfig")?,
             text: Sequence::copy_of(alloc, request.body().as_slice())?,
         }),
+        Route::Metrics => Ok(PageRequest::Metrics),
     }
 }
 

@@ -1,20 +1,22 @@
 //! The response to a request.
 
-ghost use Rattle.std.specs.Prelude.{◌≡◌, codes, false, length, MatchResult, OnOk};
+ghost use Rattle.std.specs.Prelude.{◌≡◌, ◌++◌, ◌≤◌, codes, false, length, IfSome, MatchResult, OnOk};
 ghost use Rattle.serde_json.specs.View.{view};
 ghost use Rattle.serde_json.specs.Written.{compact_text, has_float};
-ghost use Rattle.http_server.specs.Response.{IsBlank};
+ghost use Rattle.http_server.specs.Response.{IsBlank, IsResponse};
 ghost use Rattle.click_router.specs.FaultText.{fault_text};
 ghost use Rattle.click_router.specs.Opened.{IsMemory};
 ghost use Rattle.click_page.specs.Asking.{commands_of, reading};
 ghost use Rattle.click_draw.specs.Drawn.{IsPicture};
 ghost use Rattle.click_page.specs.Form.{IsFlatText};
-ghost use Rattle.click_page.specs.Saying.{Says, SaysFor, SaysMade, entry_of, fault_data, refusal_line, status_of};
+ghost use Rattle.click_page.specs.Saying.{Says, SaysFor, SaysMade, SaysMetrics, allow_of, entry_of, fault_data, fields_for, refusal_line, status_of};
 
 use crate::answer_json::{fault_entry, read_entries, read_entry, write_entry};
 use crate::content_kind::ContentKind;
 use crate::flat_json::flat_text;
-use crate::headers::{bytes_response, text_response};
+use crate::headers::{add, bytes_response, text_response};
+use crate::measuring::Measured;
+use crate::metrics::metrics_text;
 use crate::page_request::{PageRequest, RequestRefusal};
 use crate::page_text::PAGE;
 use crate::values::json_text;
@@ -34,7 +36,7 @@ fn status_of(why: RequestRefusal) -> StatusCode
     match why {
         RequestRefusal::ForeignHost | RequestRefusal::MissingHeader => StatusCode::FORBIDDEN,
         RequestRefusal::NotFound => StatusCode::NOT_FOUND,
-        RequestRefusal::WrongMethod => StatusCode::METHOD_NOT_ALLOWED,
+        RequestRefusal::WantsGet | RequestRefusal::WantsPost => StatusCode::METHOD_NOT_ALLOWED,
         RequestRefusal::WrongQuery => StatusCode::BAD_REQUEST,
     }
 }
@@ -46,19 +48,24 @@ fn refusal_line(why: RequestRefusal) -> &'static [u8]
     match why {
         RequestRefusal::ForeignHost => b"this page is at 127.0.0.1 alone\n",
         RequestRefusal::NotFound => b"there is nothing of that name\n",
-        RequestRefusal::WrongMethod => b"another method is wanted here\n",
+        RequestRefusal::WantsGet | RequestRefusal::WantsPost => b"another method is wanted here\n",
         RequestRefusal::MissingHeader => b"a write needs the header x-click-page\n",
         RequestRefusal::WrongQuery => b"the query names no handlers, or too many\n",
     }
 }
 
-/// Responds with a refusal.
+/// Responds with a refusal. A refusal of a method names the methods of the path.
 fn say_refusal(why: RequestRefusal, response: &mut Response) -> Result<(), AllocError>
     requires { IsBlank response.old }
-    ensures { OnOk result (Says (status_of why) ContentKind.Text (refusal_line why) response.new) }
+    ensures { OnOk result (IsResponse (status_of why) (fields_for ContentKind.Text ++ allow_of why) (refusal_line why) response.new) }
 {
     let line = Bytes::from_static(refusal_line(why));
-    bytes_response(status_of(why), ContentKind::Text, line, response)
+    bytes_response(status_of(why), ContentKind::Text, line, response)?;
+    match why {
+        RequestRefusal::WantsGet => add(response, "allow", "GET, HEAD"),
+        RequestRefusal::WantsPost => add(response, "allow", "POST"),
+        _ => Ok(()),
+    }
 }
 
 /// Responds with a JSON value.
@@ -133,17 +140,45 @@ fn say_flat(alloc: Global, answer: &Answer, response: &mut Response) -> Result<(
     }
 }
 
-/// Responds to a request whose commands were answered in this way. After an error, part of the
-/// response may have been written.
+/// Responds with the metrics, or with status 503 if the running configuration was not read.
+fn say_metrics(
+    alloc: Global,
+    answers: &[Answer],
+    measured: &Measured,
+    response: &mut Response,
+) -> Result<(), AllocError>
+    requires blank { IsBlank response.old }
+    requires two { 2 ≤ length answers.now }
+    requires all { IfSome measured.now.survey (λ s. length measured.now.values.items ≡ length s.samples) }
+    ensures { OnOk result (SaysMetrics measured.now.survey answers.now measured.now.values.items response.new) }
+{
+    match &measured.survey {
+        Some(survey) => {
+            let text = metrics_text(alloc, survey, answers, measured.values.as_slice())?;
+            text_response(ContentKind::Metrics, text, response)
+        }
+        None => bytes_response(
+            StatusCode::SERVICE_UNAVAILABLE,
+            ContentKind::Text,
+            Bytes::from_static(b"the running configuration was not read\n"),
+            response,
+        ),
+    }
+}
+
+/// Responds to a request whose commands were answered in this way, and whose survey had these
+/// values. After an error, part of the response may have been written.
 pub(crate) fn respond(
     alloc: Global,
     page_request: &PageRequest,
     answers: &[Answer],
+    measured: &Measured,
     response: &mut Response,
 ) -> Result<(), AllocError>
     requires blank { IsBlank response.old }
     requires many { length answers.now ≡ length (commands_of page_request.now) }
-    ensures { OnOk result (SaysFor page_request.now answers.now response.new) }
+    requires all { IfSome measured.now.survey (λ s. length measured.now.values.items ≡ length s.samples) }
+    ensures { OnOk result (SaysFor page_request.now answers.now measured.now.survey measured.now.values.items response.new) }
 {
     match page_request {
         PageRequest::Page => bytes_response(
@@ -162,6 +197,7 @@ pub(crate) fn respond(
             let told = write_entry(alloc, handler.as_slice(), &answers[0])?;
             say_value(alloc, &told, response)
         }
+        PageRequest::Metrics => say_metrics(alloc, answers, measured, response),
         PageRequest::Refused(why) => say_refusal(*why, response),
     }
 }

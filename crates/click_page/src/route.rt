@@ -1,7 +1,7 @@
 //! The routes of the page.
 
 ghost use Rattle.std.specs.Prelude.{◌≡◌};
-ghost use Rattle.click_page.specs.Asking.{is_write, route_of};
+ghost use Rattle.click_page.specs.Asking.{is_method_at, is_write, route_of};
 
 /// The route of a request, by its path.
 #[derive(Clone, Copy, Debug, PartialEq, Eq)]
@@ -12,6 +12,7 @@ pub(crate) enum Route {
     Read,
     Write,
     Swap,
+    Metrics,
 }
 
 /// Returns the route of a path.
@@ -26,6 +27,7 @@ pub(crate) fn route_of(path: &str) -> Option<Route>
         "/read" => Some(Route::Read),
         "/write" => Some(Route::Write),
         "/swap" => Some(Route::Swap),
+        "/metrics" => Some(Route::Metrics),
         _ => None,
     }
 }
@@ -36,5 +38,16 @@ impl Route {
         ensures { result ≡ is_write self }
     {
         matches!(self, Route::Write | Route::Swap)
+    }
+
+    /// Returns whether requests for this route may have this method.
+    pub(crate) fn has_method(self, method: &[u8]) -> bool
+        ensures { result ≡ is_method_at self method.now }
+    {
+        if self.is_write() {
+            method == b"POST".as_slice()
+        } else {
+            method == b"GET".as_slice() || method == b"HEAD".as_slice()
+        }
     }
 }

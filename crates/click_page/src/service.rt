@@ -1,11 +1,13 @@
 //! The page as an HTTP service.
 
-ghost use Rattle.std.specs.Prelude.{◌≡◌, ◌⊎◌, length};
+ghost use Rattle.std.specs.Prelude.{◌≡◌, ◌⊎◌, Bool, length, IfSome};
 ghost use Rattle.http_server.specs.Response.{IsBlank};
+ghost use Rattle.click_page.specs.Answering.{Follows};
 ghost use Rattle.click_page.specs.Asking.{commands_of};
 ghost use Rattle.click_page.specs.Saying.{SaysFor, SaysNoMemory};
 
 use crate::calls::{ask_all, calls_of};
+use crate::measuring::{Measured, measure_for};
 use crate::page_request::PageRequest;
 use crate::requests::parse_request;
 use crate::responding::respond;
@@ -69,7 +71,8 @@ impl<P: Port> Service for Page<P> {
 
     ghost answers = { AnswersSo P.asks };
 
-    /// Allocates the memory for the calls before it makes the first one.
+    /// Allocates the memory for the calls before it makes the first one, and that for the reads of
+    /// a survey before it makes the first of these.
     fn call(
         &mut self,
         request: &Request<Bytes>,
@@ -79,19 +82,57 @@ impl<P: Port> Service for Page<P> {
         let calls = calls_of(self.alloc, &page_request, self.readonly)?;
         let answers = Vec::with_capacity(self.alloc, calls.len())?;
         let answers = ask_all(self.alloc, &mut self.port, calls, answers);
-        tell(self.alloc, &page_request, answers.as_slice(), response);
+        finish(
+            self.alloc,
+            &mut self.port,
+            &page_request,
+            answers.as_slice(),
+            response,
+        );
         Ok(())
     }
 }
 
-/// Responds with the answers, or with status 503 if it runs out of memory.
-fn tell(alloc: Global, page_request: &PageRequest, answers: &[Answer], response: &mut Response)
+/// Makes the reads that follow the first answers to a request, and responds.
+fn finish<P: Port>(
+    alloc: Global,
+    port: &mut P,
+    page_request: &PageRequest,
+    answers: &[Answer],
+    response: &mut Response,
+)
     requires blank { IsBlank response.old }
     requires each { length answers.now ≡ length (commands_of page_request.now) }
-    ensures { SaysFor page_request.now answers.now response.new ⊎ SaysNoMemory response.new }
+    ensures { (readonly : Bool) → Follows P.asks readonly page_request.now answers.now port.old response.new port.new }
 {
-    if respond(alloc, page_request, answers, response).is_err() {
-        response.clear();
-        response.status = StatusCode::SERVICE_UNAVAILABLE;
+    match measure_for(alloc, port, page_request, answers) {
+        Ok(measured) => tell(alloc, page_request, answers, &measured, response),
+        Err(_) => tell_no_memory(response),
     }
+}
+
+/// Responds with the answers, or with status 503 if it runs out of memory.
+fn tell(
+    alloc: Global,
+    page_request: &PageRequest,
+    answers: &[Answer],
+    measured: &Measured,
+    response: &mut Response,
+)
+    requires blank { IsBlank response.old }
+    requires each { length answers.now ≡ length (commands_of page_request.now) }
+    requires all { IfSome measured.now.survey (λ s. length measured.now.values.items ≡ length s.samples) }
+    ensures { SaysFor page_request.now answers.now measured.now.survey measured.now.values.items response.new ⊎ SaysNoMemory response.new }
+{
+    if respond(alloc, page_request, answers, measured, response).is_err() {
+        tell_no_memory(response);
+    }
+}
+
+/// Responds with status 503, without fields or body.
+fn tell_no_memory(response: &mut Response)
+    ensures { SaysNoMemory response.new }
+{
+    response.clear();
+    response.status = StatusCode::SERVICE_UNAVAILABLE;
 }

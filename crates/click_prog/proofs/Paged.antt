@@ -6,6 +6,9 @@ use Rattle.http_server.specs.Exchange.{Call, Chain}
 use Rattle.click_router.specs.One.{is_transmit}
 use Rattle.click_router.specs.declared.call.Call.{Call as Asked}
 use Rattle.click_router.specs.declared.call.Reply.{Reply}
+use Rattle.click_control.specs.Serving.{Asked as AsksFor}
+use Rattle.click_control.specs.declared.command.Answer.{Answer}
+use Rattle.click_control.specs.declared.command.Command.{Command}
 use Rattle.click_control.specs.declared.port.AskFault.{AskFault}
 use Rattle.click_desk.specs.SeatStates.{SeatState}
 use Rattle.click_page.specs.Answering.{Paged, AnswersSo}
@@ -21,13 +24,24 @@ same-twice a b c h k = (k.0 ∙ h.0, k.1 ∙ h.1, k.2 ∙ h.2)
 chain-same : (old : Paged SeatState) (requests : List Call) (new : Paged SeatState) → Chain (AnswersSo SeatAsks) old requests new → SameSeat old.port new.port
 chain-same old [] new e = (ap (λ p. p.port.desk) e, ap (λ p. p.port.number) e, ap (λ p. p.port.feeds) e)
 chain-same old (r ∷ requests) new (next, answers, rest) =
-    same-twice old.port next.port new.port (asked-grows old.readonly old.port _ answers.answers next.port answers.asked).0 (chain-same next requests new rest)
+    same-twice old.port next.port new.port
+    (same-twice old.port answers.mid next.port (asked-grows old.readonly old.port _ answers.answers answers.mid answers.asked).0
+    (asked-grows old.readonly answers.mid _ answers.follows.values next.port answers.follows.asked).0)
+    (chain-same next requests new rest)
+
+-- the calls of commands have no Transmit
+asked-quiet : (readonly : Bool) (p : SeatState) (commands : List Command) (answers : List Answer) (q : SeatState) → AsksFor SeatAsks readonly p commands answers q → AreQuiet p.calls
+    → AreQuiet q.calls
+asked-quiet readonly p commands answers q asked quiet =
+    let grown = (asked-grows readonly p commands answers q asked).1 in
+    subst AreQuiet (sym grown) (quiet-both p.calls _ quiet (made-quiet readonly commands answers))
 
 chain-quiet : (old : Paged SeatState) (requests : List Call) (new : Paged SeatState) → Chain (AnswersSo SeatAsks) old requests new → AreQuiet old.port.calls → AreQuiet new.port.calls
 chain-quiet old [] new e quiet = subst (λ (p : Paged SeatState). AreQuiet p.port.calls) (sym e) quiet
 chain-quiet old (r ∷ requests) new (next, answers, rest) quiet =
-    let grown = (asked-grows old.readonly old.port _ answers.answers next.port answers.asked).1 in
-    chain-quiet next requests new rest (subst AreQuiet (sym grown) (quiet-both old.port.calls _ quiet (made-quiet old.readonly _ answers.answers)))
+    let follows = answers.follows in
+    let first = asked-quiet old.readonly old.port _ answers.answers answers.mid answers.asked quiet in
+    chain-quiet next requests new rest (asked-quiet old.readonly answers.mid _ follows.values next.port follows.asked first)
 
 module _ {P : Type 0} (asks : P → Asked → Result Reply AskFault → P → Type 0) where
   chain-kept : (old : Paged P) (requests : List Call) (new : Paged P) → Chain (AnswersSo asks) old requests new → (new.readonly ≡ old.readonly) × (new.at ≡ old.at)

@@ -34,6 +34,11 @@ IsMistyped found id least most n = (first_value found id ≡ Some n.text.now) ×
 abbrev pub values_of : Found → List ℕ → List (List ℕ)
 values_of found id = option_map_or raw_values (matched_of found id) []
 
+-- the idle time of sessions if none is given, in seconds: 600 for a live router, else 0
+abbrev pub usual_idle : Bool → ℕ
+usual_idle true = 600
+usual_idle false = 0
+
 -- The options are those that clap found. Each number is the one that was given, or the usual one.
 pub record Finds (found : Found) (options : Options) : Type 0 where
   pub text : option_map (λ s. s.now) options.text ≡ first_value found (codes "text")
@@ -47,6 +52,7 @@ pub record Finds (found : Found) (options : Options) : Type 0 where
   pub book : IsFlag (one_text found (codes "book")) options.book
   pub live : IsFlag (one_text found (codes "live")) options.live
   pub links : AreLinks (values_of found (codes "device")) options.links.items
+  pub idle : IsGivenOr 0 86400 (usual_idle options.live) (first_value found (codes "quiet")) options.idle
   pub tell : IsGivenOr 0 86400 0 (first_value found (codes "every")) options.tell
   pub draw : IsFlag (one_text found (codes "image")) options.draw
 
@@ -54,7 +60,7 @@ pub record Finds (found : Found) (options : Options) : Type 0 where
 abbrev pub HasNoNumber : Found → Type 0
 HasNoNumber found = (first_value found (codes "port") ≡ None) × (first_value found (codes "sessions") ≡ None) × (first_value found (codes "workers") ≡ None)
     × (first_value found (codes "number") ≡ None) × (first_value found (codes "every") ≡ None)
-    × (first_value found (codes "front") ≡ None)
+    × (first_value found (codes "quiet") ≡ None) × (first_value found (codes "front") ≡ None)
 
 -- no other option was given that only a run has
 abbrev pub HasNoWord : Options → Type 0
@@ -83,7 +89,7 @@ abbrev pub IsRefusedFor : Found → ArgumentRefusal → Type 0
 IsRefusedFor found (why.Clap error) = Unit {0}
 IsRefusedFor found (why.NoNumber n) =
     IsMistyped found (codes "port") 1 65535 n ⊎ (IsMistyped found (codes "sessions") 1 64 n ⊎ (IsMistyped found (codes "workers") 0 16 n
-    ⊎ (IsMistyped found (codes "number") 0 1000000 n ⊎ (IsMistyped found (codes "every") 0 86400 n ⊎ IsMistyped found (codes "front") 1 65535 n))))
+    ⊎ (IsMistyped found (codes "number") 0 1000000 n ⊎ (IsMistyped found (codes "every") 0 86400 n ⊎ (IsMistyped found (codes "quiet") 0 86400 n ⊎ IsMistyped found (codes "front") 1 65535 n)))))
 IsRefusedFor found (why.NotDrawn option) = (options : Options) × Finds found options × (DrawsAlone found options → ⊥)
 IsRefusedFor found (why.NotLive option) = (options : Options) × Finds found options × (GoesOn found options → ⊥)
 IsRefusedFor found (why.OnlyLive option) = (options : Options) × Finds found options × (Ends found options → ⊥)
@@ -102,6 +108,7 @@ pub record IsInRanges (options : Options) : Type 0 where
   pub rounds : options.rounds ≤ 1000000
   pub links : length options.links.items ≤ 16
   pub tell : options.tell ≤ 86400
+  pub idle : options.idle ≤ 86400
 
 -- the number of sessions: one if there is no port
 abbrev pub sessions_at : Option ℕ → ℕ → ℕ

@@ -5,7 +5,7 @@ ghost use Rattle.clap.specs.Built.{IsParsedFrom};
 ghost use Rattle.clap.specs.Matches.{first_value, found_of};
 ghost use Rattle.clap.specs.declared.builder.command.Command.{Command};
 ghost use Rattle.clap.specs.declared.parser.matches.ArgMatches.{ArgMatches};
-ghost use Rattle.click_prog.specs.Asked.{AsksFor, DrawsAlone, Ends, Finds, GoesOn, HasNoNumber, HasNoWord, IsGiven, IsGivenOr, IsInRanges, IsMistyped, IsRefused, IsRefusedFor, values_of};
+ghost use Rattle.click_prog.specs.Asked.{AsksFor, DrawsAlone, Ends, Finds, GoesOn, HasNoNumber, HasNoWord, IsGiven, IsGivenOr, IsInRanges, IsMistyped, IsRefused, IsRefusedFor, usual_idle, values_of};
 ghost use Rattle.click_prog.specs.Links.{AreLinks, IsLinkFault};
 
 use crate::link::{Link, LinkFault, links_of};
@@ -43,6 +43,9 @@ pub struct Options<'a> {
     /// The interval at which the counts of links are printed, in seconds (0 to 86,400). 0 means
     /// never, and is the value without `live`.
     pub tell: u64,
+    /// The time after which a session over TCP ends if its client keeps it waiting, in seconds (0 to
+    /// 86,400). 0 means never.
+    pub idle: u64,
     /// Whether a picture is drawn, and no session served.
     pub draw: bool,
 }
@@ -114,7 +117,7 @@ pub struct NoNumber<'a> {
 }
 
 /// The options of the command line.
-const OPTIONS: [CommandOption; 13] = [
+const OPTIONS: [CommandOption; 14] = [
     TEXT,
     CommandOption {
         id: "port",
@@ -175,6 +178,12 @@ const OPTIONS: [CommandOption; 13] = [
         name: OptionName::Long("tell"),
         takes: Takes::Number("SECONDS"),
         help: "With --live: print the counts of all links on standard error at this interval (0 to 86400; default 0, never)",
+    },
+    CommandOption {
+        id: "quiet",
+        name: OptionName::Long("idle"),
+        takes: Takes::Number("SECONDS"),
+        help: "End a TCP session whose client keeps it waiting for this time (0 to 86400, 0 is never; default 600 with --live, else 0)",
     },
     CommandOption {
         id: "front",
@@ -256,6 +265,7 @@ fn options_found<'a>(
     ensures found { IfOk result (Finds (found_of matches.now)) }
     ensures refused { IfErr result (IsRefusedFor (found_of matches.now)) }
 {
+    let live = matches.get_flag("live");
     Ok(Options {
         text: matches.get_str("text"),
         readonly: matches.get_flag("readonly"),
@@ -266,11 +276,27 @@ fn options_found<'a>(
         rounds: number_of(matches, "number", "--rounds <N>", 0, 1_000_000, 1_000)?,
         check: matches.get_str("check"),
         book: matches.get_flag("book"),
-        live: matches.get_flag("live"),
+        live,
         links: links_found(alloc, matches)?,
         tell: number_of(matches, "every", "--tell <SECONDS>", 0, 86_400, 0)?,
+        idle: number_of(
+            matches,
+            "quiet",
+            "--idle <SECONDS>",
+            0,
+            86_400,
+            usual_idle(live),
+        )?,
         draw: matches.get_flag("image"),
     })
+}
+
+/// Returns the idle time of sessions if none is given, in seconds.
+fn usual_idle(live: bool) -> u64
+    ensures usual { result ≡ usual_idle live }
+    ensures range { result ≤ 86400 }
+{
+    if live { 600 } else { 0 }
 }
 
 /// Returns the links that were given.
@@ -315,6 +341,9 @@ fn run_only_number(matches: &ArgMatches) -> Option<&'static str>
     }
     if matches.get_str("every").is_some() {
         return Some("--tell");
+    }
+    if matches.get_str("quiet").is_some() {
+        return Some("--idle");
     }
     if matches.get_str("front").is_some() {
         return Some("--page");

@@ -35,21 +35,3 @@ impl Door for Standard {
         Some((Reading::new(self.input), Writing::new(self.output)))
     }
 }
-
-/// A door that lets no session in: the program could not listen.
-#[derive(Drop)]
-pub struct ClosedDoor;
-
-impl Door for ClosedDoor {
-    ghost use Rattle.std.specs.Prelude.{◌≡◌, None};
-
-    ghost lets_in = { λ _ _ got. got ≡ None };
-
-    type Reader = Reading<Stdin>;
-
-    type Writer = Writing<Stdout>;
-
-    fn enter(&self, _who: usize) -> Option<(Reading<Stdin>, Writing<Stdout>)> {
-        None
-    }
-}

@@ -3,7 +3,8 @@
 //! answers calls, one on each line, and `--pcap` sends a capture through the router.
 #![tactic(auto)]
 
-ghost use Rattle.std.specs.Prelude.{◌≡◌, ◌∷◌, []};
+ghost use Rattle.std.specs.Prelude.{◌≡◌, ◌<◌, ◌*◌, ◌∷◌, [], MatchOption};
+ghost use Rattle.std.specs.Duration.{as_nanos};
 ghost use Rattle.std.specs.Net.Addr.{ipv4_octets};
 
 mod arguments;
@@ -32,7 +33,7 @@ use link::{Link, LinkFault};
 use linking::OpenLinks;
 use mode::{Mode, mode_of};
 use pcap::run_pcap;
-use runs::{Serving, SessionSource, config_fault_status};
+use runs::{Serving, SessionSource, config_fault_status, refuse_port};
 use serving::{EndReport, RunSetup, plan_of};
 use sockets::{SocketFault, open_sockets};
 use std::alloc::Global;
@@ -40,6 +41,7 @@ use std::net::{Ipv4Addr, Net, TcpListener, TcpStream};
 use std::process::ExitCode;
 use std::sync::Wait;
 use std::thread::Threads;
+use std::time::Duration;
 
 fn main(rt: HostRuntime) -> ExitCode {
     ExitCode::from(program(&rt, &rt).code())
@@ -106,8 +108,8 @@ fn serve<R: Threads + Wait + Net<Listener = TcpListener, Stream = TcpStream> + S
     let session_source = match options.port {
         None => SessionSource::Standard,
         Some(port) => match TcpListener::bind(rt, address_of(port)) {
-            Ok(listener) => SessionSource::Over(listener),
-            Err(_) => SessionSource::Nowhere,
+            Ok(listener) => SessionSource::Over(listener, idle_limit_of(options.idle)),
+            Err(fault) => return refuse_port(host, setup.text, "sessions", port, &fault),
         },
     };
     let serving = Serving {
@@ -156,6 +158,17 @@ fn address_of(port: u16) -> (Ipv4Addr, u16)
     ensures port { result.1 ≡ port }
 {
     (Ipv4Addr::LOCALHOST, port)
+}
+
+/// Returns the idle limit of sessions, or `None` for 0 seconds: they have no limit.
+fn idle_limit_of(seconds: u64) -> Option<Duration>
+    ensures { MatchOption result (seconds ≡ 0) (λ limit. (0 < seconds) × (as_nanos limit ≡ seconds * 1_000_000_000)) }
+{
+    if seconds == 0 {
+        None
+    } else {
+        Some(Duration::from_secs(seconds))
+    }
 }
 
 /// Prints the reason why the command line is refused, but nothing for out of memory.

@@ -1,11 +1,12 @@
 //! The run that a command line asks for, over a table of handlers.
 
-ghost use Rattle.std.specs.Prelude.{◌≡◌, ◌||◌, ◌<◌, true, false, is_some, option_map};
+ghost use Rattle.std.specs.Prelude.{◌≡◌, ◌||◌, ◌<◌, Option, true, false, is_some, option_map};
 ghost use Rattle.std.specs.declared.net.TcpListener.{TcpListener};
+ghost use Rattle.std.specs.declared.time.Duration.{Duration};
 ghost use Rattle.click_prog.specs.Running.{RunsAlone};
 ghost use Rattle.click_prog.specs.Serving.{ServesTo, ServesFrom, is_alone, turns_of};
 
-use crate::doors::{ClosedDoor, Standard};
+use crate::doors::Standard;
 use crate::linking::{OpenLinks, serve_linked};
 use crate::paging::serve_paged;
 use crate::serving::{Arrivals, Plan, RunSetup, serve_all, serve_live, session};
@@ -21,16 +22,15 @@ use std::io::{self, Stdin, Stdout};
 use std::net::{TcpListener, TcpStream};
 use std::sync::Wait;
 use std::thread::Threads;
+use std::time::Duration;
 
 /// The origin of the sessions of a run.
 #[derive(Drop)]
 pub enum SessionSource {
     /// One session, on standard input and output.
     Standard,
-    /// Sessions over TCP.
-    Over(TcpListener),
-    /// No session: the program could not listen on its port.
-    Nowhere,
+    /// Sessions over TCP, with the idle limit of each.
+    Over(TcpListener, Option<Duration>),
 }
 
 /// The arguments of a run.
@@ -62,15 +62,22 @@ impl<'a> Serving<'a> {
             None => None,
             Some(port) => match open_http_listener(host, host.alloc(), port) {
                 Ok(http_listener) => Some(http_listener),
-                Err(fault) => return refuse_page(host, setup.text, port, &fault),
+                Err(fault) => return refuse_port(host, setup.text, "page", port, &fault),
             },
         };
         serve_source(rt, host, table, setup, session_source, links, page)
     }
 }
 
-/// Prints the reason why there is no page. If the configuration has a fault, prints that instead.
-fn refuse_page(host: &HostRuntime, text: &[u8], port: u16, fault: &io::Error) -> Status {
+/// Prints the reason why the program cannot listen on a port, and what it is for. If the
+/// configuration has a fault, prints that instead.
+pub fn refuse_port(
+    host: &HostRuntime,
+    text: &[u8],
+    user: &str,
+    port: u16,
+    fault: &io::Error,
+) -> Status {
     if let Some(status) = config_fault_status(host, text) {
         return status;
     }
@@ -78,7 +85,7 @@ fn refuse_page(host: &HostRuntime, text: &[u8], port: u16, fault: &io::Error) ->
         return Status::NoMemory;
     }
     // A failed write does not change the status.
-    let _ = eprintln!(host; "click_prog: page: cannot listen on 127.0.0.1:{port}: {fault}");
+    let _ = eprintln!(host; "click_prog: {user}: cannot listen on 127.0.0.1:{port}: {fault}");
     Status::DeviceFailed
 }
 
@@ -144,11 +151,9 @@ fn serve_source<T: Handlers + Send + Drop, R: Threads + Wait + Sync>(
     ensures alone { session_source ≡ SessionSource.Standard → is_alone (is_some links || is_some page) setup.entry.plan ≡ true → RunsAlone setup.entry.text.now setup.entry.plan.readonly result }
     ensures standard { session_source ≡ SessionSource.Standard → is_alone (is_some links || is_some page) setup.entry.plan ≡ false → ServesFrom ⟦<Standard as Door>⟧.lets_in ⟦<Reading<Stdin> as Source>⟧.input
         ⟦<Writing<Stdout> as Sink>⟧.output ⟦<OpenGate as Gate>⟧.gives ⟦<OpenGate as Gate>⟧.told links (option_map (λ p. p.port) page) setup.entry.plan setup.entry.text.now 1 result }
-    ensures over { (listener : TcpListener) → session_source ≡ SessionSource.Over listener → ServesFrom ⟦<Listening as Door>⟧.lets_in ⟦<Reading<TcpStream> as Source>⟧.input
+    ensures over { (listener : TcpListener) (idle_limit : Option Duration) → session_source ≡ SessionSource.Over listener idle_limit → ServesFrom ⟦<Listening<'static, HostRuntime> as Door>⟧.lets_in ⟦<Reading<TcpStream> as Source>⟧.input
         ⟦<Writing<TcpStream> as Sink>⟧.output ⟦<OpenGate as Gate>⟧.gives ⟦<OpenGate as Gate>⟧.told links (option_map (λ p. p.port) page) setup.entry.plan setup.entry.text.now
         (turns_of (is_some links || setup.entry.plan.live)) result }
-    ensures nowhere { session_source ≡ SessionSource.Nowhere → ServesFrom ⟦<ClosedDoor as Door>⟧.lets_in ⟦<Reading<Stdin> as Source>⟧.input
-        ⟦<Writing<Stdout> as Sink>⟧.output ⟦<OpenGate as Gate>⟧.gives ⟦<OpenGate as Gate>⟧.told links (option_map (λ p. p.port) page) setup.entry.plan setup.entry.text.now 1 result }
 {
     match session_source {
         SessionSource::Standard if is_alone(&setup.plan, links.is_some() || page.is_some()) => {
@@ -160,14 +165,10 @@ fn serve_source<T: Handlers + Send + Drop, R: Threads + Wait + Sync>(
             let arrivals = Arrivals::open(&door, 1);
             serve_at(rt, host, table, setup, arrivals, links, page)
         }
-        SessionSource::Over(listener) => {
-            let door = Listening::new(listener);
+        SessionSource::Over(listener, idle_limit) => {
+            let door = Listening::new(listener, idle_limit, host);
             let turns = turns_of(links.is_some() || setup.plan.live);
             let arrivals = Arrivals::open(&door, turns);
-            serve_at(rt, host, table, setup, arrivals, links, page)
-        }
-        SessionSource::Nowhere => {
-            let arrivals = Arrivals::open(&ClosedDoor, 1);
             serve_at(rt, host, table, setup, arrivals, links, page)
         }
     }

@@ -1,3 +1,4 @@
+pub mod Doors
 pub mod Gates
 pub mod Seats
 pub mod Work

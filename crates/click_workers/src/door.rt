@@ -1,5 +1,6 @@
 //! The door, through which sessions come in.
 
+use click_control::{Ended, ServeFault};
 use click_streams::{Sink, Source};
 
 /// A source of sessions. The thread of each session enters by itself, and may block there.
@@ -22,4 +23,16 @@ pub trait Door: Sync {
     /// it cannot come in.
     fn enter(&self, who: usize) -> Option<(Self::Reader, Self::Writer)>
         ensures { lets_in self.now who result };
+
+    /// Takes back the reader and the writer of session `who`, which has ended in this way. May
+    /// block for a bounded time.
+    ///
+    /// Without an implementation it drops the reader and the writer.
+    fn leave(
+        &self,
+        _who: usize,
+        _ended: &Result<Ended, ServeFault>,
+        _reader: Self::Reader,
+        _writer: Self::Writer,
+    ) {}
 }

@@ -1,22 +1,61 @@
 //! A door for sessions over TCP.
 
+ghost use Rattle.std.specs.Prelude.{◌≡◌, true, false};
+ghost use Rattle.click_workers.specs.Doors.{has_device_failed};
+
 use crate::door::Door;
+use click_control::{Ended, ServeFault};
 use click_streams::{Reading, Writing};
-use std::net::{TcpListener, TcpStream};
+use std::io;
+use std::io::Read;
+use std::net::{Shutdown, TcpListener, TcpStream};
+use std::time::{Clock, Duration, Instant};
+
+/// The maximum time for which the input of an ended session is discarded, in milliseconds.
+const MAX_DISCARD_MS: u64 = 2_000;
+
+/// The number of bytes after which the input of an ended session is not discarded any more.
+const MAX_DISCARD_BYTES: usize = 2_097_152;
+
+/// The maximum number of bytes of one read that discards input.
+const DISCARD_CHUNK_BYTES: usize = 16_384;
 
 /// A door that accepts one TCP connection for each session. Nothing is promised about the peer.
+///
+/// With an idle limit a read of a session fails if no byte comes for this time. A write fails if
+/// the peer takes no byte for this time.
 #[derive(Drop)]
-pub struct Listening {
+pub struct Listening<'a, C> {
     listener: TcpListener,
+    idle_limit: Option<Duration>,
+    clock: &'a C,
 }
 
-impl Listening {
-    pub fn new(listener: TcpListener) -> Listening {
-        Listening { listener }
+impl<'a, C> Listening<'a, C> {
+    /// Returns a door at this listener. The idle limit is not 0.
+    pub fn new(
+        listener: TcpListener,
+        idle_limit: Option<Duration>,
+        clock: &'a C,
+    ) -> Listening<'a, C> {
+        Listening {
+            listener,
+            idle_limit,
+            clock,
+        }
+    }
+
+    /// Accepts a connection, and returns two handles of it.
+    fn accept(&self) -> io::Result<(TcpStream, TcpStream)> {
+        let (stream, _) = self.listener.accept()?;
+        stream.set_read_timeout(self.idle_limit)?;
+        stream.set_write_timeout(self.idle_limit)?;
+        let other = stream.try_clone()?;
+        Ok((stream, other))
     }
 }
 
-impl Door for Listening {
+impl<'a, C: Clock + Sync> Door for Listening<'a, C> {
     ghost lets_in = { λ _ _ _. Unit {0} };
 
     type Reader = Reading<TcpStream>;
@@ -24,12 +63,56 @@ impl Door for Listening {
     type Writer = Writing<TcpStream>;
 
     fn enter(&self, _who: usize) -> Option<(Reading<TcpStream>, Writing<TcpStream>)> {
-        let Ok((stream, _)) = self.listener.accept() else {
-            return None;
-        };
-        let Ok(other) = stream.try_clone() else {
-            return None;
-        };
-        Some((Reading::new(stream), Writing::new(other)))
+        match self.accept() {
+            Ok((stream, other)) => Some((Reading::new(stream), Writing::new(other))),
+            Err(_) => None,
+        }
     }
+
+    fn leave(
+        &self,
+        _who: usize,
+        ended: &Result<Ended, ServeFault>,
+        reader: Reading<TcpStream>,
+        _writer: Writing<TcpStream>,
+    ) {
+        // A peer that is gone, or that kept the session waiting, gets no more time.
+        if has_device_failed(ended) {
+            return;
+        }
+        // The connection is closed in any case.
+        let _ = discard_rest(self.clock, reader.into_inner());
+    }
+}
+
+/// Returns whether a session ended because its source or its sink failed.
+fn has_device_failed(ended: &Result<Ended, ServeFault>) -> bool
+    ensures { result ≡ has_device_failed ended.now }
+{
+    matches!(ended, Err(ServeFault::ReadFailed | ServeFault::WriteFailed))
+}
+
+/// Shuts down the writing side of a connection, and discards what arrives until the peer does the
+/// same. Ends early after `MAX_DISCARD_MS`, or once `MAX_DISCARD_BYTES` were discarded.
+///
+/// If bytes are unread when a connection is closed, the system resets it (RFC 1122, section
+/// 4.2.2.13). Replies that the peer does not have yet are then lost.
+fn discard_rest<C: Clock>(clock: &C, mut stream: TcpStream) -> io::Result<()> {
+    stream.shutdown(Shutdown::Write)?;
+    let start = Instant::now(clock)?;
+    let limit = Duration::from_millis(MAX_DISCARD_MS);
+    let mut piece = [0; DISCARD_CHUNK_BYTES];
+    let mut bytes_left = MAX_DISCARD_BYTES;
+    while bytes_left > 0 {
+        let time_left = limit.saturating_sub(start.elapsed(clock)?);
+        if time_left.is_zero() {
+            return Ok(());
+        }
+        stream.set_read_timeout(Some(time_left))?;
+        match stream.read(&mut piece)? {
+            0 => return Ok(()),
+            n => bytes_left = bytes_left.saturating_sub(n),
+        }
+    }
+    Ok(())
 }

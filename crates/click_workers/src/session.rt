@@ -62,7 +62,8 @@ pub enum SessionEnd {
     Served(Result<Ended, ServeFault>),
 }
 
-/// Lets one session in through the door, under the number `who`, and serves it over the seat.
+/// Lets one session in through the door, under the number `who`, and serves it over the seat. Then
+/// the session leaves through the door.
 fn serve_entrant<T: Handlers, D: Door, G: Gate, R: Wait>(
     rt: &R,
     desk: &Desk<T, &R>,
@@ -89,6 +90,7 @@ fn serve_entrant<T: Handlers, D: Door, G: Gate, R: Wait>(
         &mut turns,
         MAX_READS,
     );
+    door.leave(who, &ended, reader, writer);
     (SessionEnd::Served(ended), seat)
 }
 

@@ -1,16 +1,13 @@
-use Rattle.std.proofs.Common.{◌≡◌, ◌⊎◌, refl, List, length, sym, subst, ap, ◌∙◌}
-use Rattle.click_control.specs.Serving.{Asked}
+use Rattle.std.proofs.Common.{List, length, subst, ap, ◌∙◌}
 use Rattle.click_control.specs.declared.command.Answer.{Answer}
-use Rattle.click_page.specs.Answering.{AnswersSo, Paged}
+use Rattle.click_page.specs.Answering.{AnswersSo, Follows, Paged}
 use Rattle.click_page.specs.Asking.{commands_of}
-use Rattle.click_page.specs.Saying.{SaysFor, SaysNoMemory}
-use Rattle.click_page.specs.declared.page_request.PageRequest.{PageRequest}
 use Rattle.click_page.proofs.CommandCalls.{asked-each}
 use Rattle.click_page.proofs.RequestAnswers.{page_answers}
 use Rattle.click_page.proofs.service.PageService.call.Goals as goal
 
-pub tell-requires-clause-each : goal.tell-requires-clause-each
-tell-requires-clause-each g c =
+pub finish-requires-clause-each : goal.finish-requires-clause-each
+finish-requires-clause-each g c =
     let page = c.self.inside in
     let commands = commands_of c.in_ok-page_request.page_request in
     let asked = c.ask_all-answers.ensures page.readonly commands c.in_ok-calls.ensures.calls in
@@ -24,10 +21,12 @@ returns-clause-ok g c =
     let page_request = c.in_ok-page_request.page_request in
     let answers = c.ask_all-answers.result.items in
     let request = c.args.request.now in
-    let response = c.tell.new.response in
+    let response = c.finish.new.response in
+    let mid = c.ask_all-answers.new.port in
+    let port = c.finish.new.port in
     let before : Paged g.row.P.Denot = record { port = page.port; readonly = page.readonly; at = page.at } in
-    let after : Paged g.row.P.Denot = record before { port = c.ask_all-answers.new.port } in
+    let after : Paged g.row.P.Denot = record before { port = port } in
     subst (λ (old : Paged g.row.P.Denot). AnswersSo asks old request response after) c.self.view_is
-    (page_answers asks before c.ask_all-answers.new.port page_request answers request response c.in_ok-page_request.ensures
+    (page_answers asks before mid port page_request answers request response c.in_ok-page_request.ensures
     (c.ask_all-answers.ensures page.readonly (commands_of page_request) c.in_ok-calls.ensures.calls)
-    (subst (λ (l : List Answer). SaysFor page_request l response ⊎ SaysNoMemory response) c.as_slice.ensures.value c.tell.ensures))
+    (subst (λ (l : List Answer). Follows asks page.readonly page_request l mid response port) c.as_slice.ensures.value (c.finish.ensures page.readonly)))
