@@ -23,26 +23,15 @@ elif [ $# -gt 0 ]; then
     exit 2
 fi
 . "$here/../../tools/lib/checking.sh"
-
-# left_out WHY: prints what is missing and exits with status 0.
-left_out() {
-    echo "left out: $1"
-    exit 0
-}
+. "$here/../../tools/lib/namespaces.sh"
 
 # Outside of the namespaces: checks that everything needed is installed, and starts the script in
 # new namespaces.
 if [ $# = 0 ]; then
     is_built "$program"
-    for needed in unshare nsenter ip socat ping curl python3; do
-        if ! command -v $needed > /dev/null; then left_out "there is no $needed"; fi
-    done
-    if ! [ -c /dev/net/tun ] || ! [ -r /dev/net/tun ] || ! [ -w /dev/net/tun ]; then left_out '/dev/net/tun cannot be opened'; fi
-    own=(unshare --net --mount --pid --fork --kill-child --mount-proc)
-    if [ "$(id -u)" != 0 ]; then own+=(--user --map-root-user); fi
-    if ! "${own[@]}" ip tuntap add dev probe mode tun 2> /dev/null; then left_out 'in a namespace of its own no TUN device can be made'; fi
+    needs tun nsenter socat ping curl python3
     status=0
-    PROGRAM=$(readlink -f "$program") timeout $most_seconds "${own[@]}" "$self" inside || status=$?
+    PROGRAM=$(readlink -f "$program") timeout $most_seconds "${namespaces[@]}" --net "$self" inside || status=$?
     if [ $status = 124 ]; then fail "not done after $most_seconds s"; fi
     exit $status
 fi

@@ -1,0 +1,86 @@
+"""Lists wrong clients: changes of clickctl, its library or its page that a check has to find.
+
+A row has the check of tools/clickctl.py that has to fail, the file, a text that the file has
+exactly once, and the text that replaces it.
+"""
+
+LIBRARY, COMMAND, PAGE = "clients/click_client.py", "clients/clickctl", "docs/CLICKCTL.md"
+
+WRONGS: tuple[tuple[str, str, str, str], ...] = (
+    # Statuses.
+    ("words", COMMAND, "REFUSED, WRONG_WORDS, NO_ROUTER = 0, 1, 2, 4", "REFUSED, WRONG_WORDS, NO_ROUTER = 0, 1, 4, 2"),
+    ("no_router", COMMAND, "REFUSED, WRONG_WORDS, NO_ROUTER = 0, 1, 2, 4", "REFUSED, WRONG_WORDS, NO_ROUTER = 0, 4, 2, 1"),
+    ("refused", COMMAND, "                status = REFUSED\n                continue", "                continue"),
+    ("refused", COMMAND, "                status = REFUSED\n                continue", "                return REFUSED"),
+    ("wait", COMMAND, "not '{given.value}'\")\n                return REFUSED", "not '{given.value}'\")\n                return DONE"),
+    ("caret", COMMAND, "refusal_of_swap(\"<stdin>\" if given.file == \"-\" else given.file, text, refusal))\n            return REFUSED", "refusal_of_swap(given.file, text, refusal))\n            return REFUSED"),
+    ("outputs", COMMAND, "        if sys.stdout is None:\n            raise OSError(0, \"it is closed\")\n", ""),
+    ("outputs", COMMAND, "raise Unwritable(f\"standard output cannot be written: {error.strerror}\") from None", "return"),
+    # Values.
+    ("read", COMMAND, "            emit(value)\n", "            emit(value + b\"\\n\")\n"),
+    ("swap", COMMAND, "            emit(value)\n", "            emit(value.decode(\"utf-8\", \"replace\").encode())\n"),
+    ("terminal", COMMAND, "sys.stdout.isatty()", "False"),
+    ("read", COMMAND, "router.read(handler, given.text)", "router.read(handler)"),
+    ("read", COMMAND, "b\"    \" + it + b\"\\n\"", "it + b\"\\n\""),
+    ("write", COMMAND, "content(\"-\") if given.text == \"-\" else bytes_of(given.text)", "bytes_of(given.text)"),
+    ("read", COMMAND, "os.environ.get(\"CLICK_PORT\") or str(DEFAULT_PORT)", "str(DEFAULT_PORT)"),
+    ("swap", COMMAND, "return sys.stdin.buffer.read(MAX_DATA_BYTES + 1)", "return sys.stdin.buffer.read(MAX_DATA_BYTES + 1).strip()"),
+    # Faults.
+    ("caret", COMMAND, "[before + after, blanks + \"^\"]", "[before + after, blanks + \" ^\"]"),
+    ("caret", COMMAND, "visible(row[: column - 1]), visible(row[column - 1 :]", "visible(row[:column]), visible(row[column:]"),
+    ("caret", COMMAND, "\"\\t\" if it == \"\\t\" else ", ""),
+    ("caret", COMMAND, "2 if unicodedata.east_asian_width(character) in \"WF\" else 1", "1"),
+    ("caret", COMMAND, "0 if unicodedata.combining(character) else ", ""),
+    ("caret", COMMAND, "text.count(b\"\\n\", 0, offset) + 1, ", "text.count(b\"\\n\", 0, offset), "),
+    ("caret", COMMAND, "depth == 0 and not token.startswith", "not token.startswith"),
+    ("caret", COMMAND, "            at = end_of_string(text, found.start())\n", "            pass\n"),
+    ("caret", COMMAND, "QUOTE = re.compile(r\"\\\"(?:\\\\.|[^\\\"\\\\])*\\\"|", "QUOTE = re.compile(r\""),
+    ("caret", COMMAND, "return offsets[0] if len(offsets) == 1 else None", "return offsets[0] if offsets else None"),
+    ("caret", COMMAND, "            while first >= 2 and tokens[first - 1][1] == \",\":\n                first -= 2\n", ""),
+    ("unusual", COMMAND, "if 1 <= line <= len(rows) and 1 <= column <= len(rows[line - 1]) + 1 else None", ""),
+    # Lists, watching and waiting.
+    ("handlers", COMMAND, "reset_counts switch table\"", "reset_counts switch\""),
+    ("list", COMMAND, "        if depth == 0:\n            return found.end()", "        return found.end()"),
+    ("check", COMMAND, "raise refusals[1 if refusals[0].status == WRONG_WAY else 0]", "raise refusals[0]"),
+    ("check", COMMAND, "            access.append(word)\n", "            access.append(word)\n            break\n"),
+    ("watch", COMMAND, "(last - first) / max(now[0] - before[0], 1e-9)", "(last - first)"),
+    ("watch", COMMAND, "time.monotonic() + given.interval", "time.monotonic()"),
+    ("watch", COMMAND, "samples[at] = sample", "samples[at] = samples[at] or sample"),
+    ("driver", COMMAND, "int(value) if re.fullmatch(rb\"-?[0-9]{1,40}\", value)", "int(value) if re.fullmatch(rb\"-?[0-9]{1,3}\", value)"),
+    ("driver", COMMAND, "max(now[0] - before[0], 1e-9)", "max(now[0] - before[0], 1e-9) * 1e6"),
+    ("watch_ends", COMMAND, "-?[0-9]{1,40}", "-?[0-9]+"),
+    ("wait", COMMAND, "value in (wanted, wanted + b\"\\n\")", "value == wanted"),
+    ("wait", COMMAND, "value in (wanted, wanted + b\"\\n\")", "value.startswith(wanted)"),
+    ("wait", COMMAND, "left = ends - time.monotonic()", "left = 0"),
+    ("flat", COMMAND, "[A-Za-z0-9_@]+(?:/[A-Za-z0-9_@]+)*|::", "[A-Za-z0-9_@]+|::"),
+    ("watch_ends", COMMAND, "    signal.signal(signal.SIGINT, signal.SIG_DFL)\n", ""),
+    ("list", COMMAND, "tokens[at + 1][1] if at + 1 < len(tokens) else \"\"", "tokens[at - 1][1]"),
+    ("help", COMMAND, "VERSION = \"clickctl 1\"", "VERSION = \"clickctl\""),
+    # The protocol.
+    ("bytes", LIBRARY, "[b\"%d\" % len(data)]", "[b\"%d\" % (len(data) + 1)]"),
+    ("bytes", LIBRARY, "[b\"%d\" % len(data)]", "[b\"%d\" % max(0, len(data) - 1)]"),
+    ("bytes", LIBRARY, "line + b\"\\r\\n\" + (data or b\"\")", "line + b\"\\r\" + (data or b\"\")"),
+    ("bytes", LIBRARY, "            self._send(b\"QUIT\\r\\n\")\n            self._reply()\n", "            pass\n"),
+    ("library", LIBRARY, "            if found[2] == b\" \":\n                break\n", "            break\n"),
+    ("wrong_routers", LIBRARY, "or found[1] != (status or found[1])", ""),
+    ("wrong_routers", LIBRARY, "raise self._lost(f\"no complete {self._waits_for}: the connection ended\")", "piece = b\"\\n\""),
+    ("prefixes", LIBRARY, "raise self._lost(f\"no complete {self._waits_for}: the connection ended\")", "piece = b\"\\r\\n\""),
+    ("prefixes", LIBRARY, "            if found[2] == b\" \":\n                break\n", "            break\n"),
+    ("wrong_routers", LIBRARY, "seconds = self._ends - time.monotonic()", "seconds = self._timeout"),
+    ("wrong_routers", LIBRARY, "if not re.fullmatch(rb\"Click::ControlSocket/1\\.\\d+\", greeting):", "if not greeting.startswith(b\"Click::\"):"),
+    ("wrong_routers", LIBRARY, "if not status.startswith(b\"2\"):", "if status.startswith(b\"5\"):"),
+    ("unusual", LIBRARY, "return self._bytes(int(found[1]))", "return self._line()"),
+    ("unusual", LIBRARY, "        while len(self._rest) < count:", "        if len(self._rest) < count:"),
+    ("unusual", LIBRARY, "self._bytes(end + 1)[:-1].removesuffix(b\"\\r\")", "self._bytes(end + 1)[:-2]"),
+    ("refused", LIBRARY, "return data.decode(\"utf-8\", \"surrogateescape\")", "return data.decode(\"utf-8\", \"replace\")"),
+    ("words", LIBRARY, "[ \\t\\r\\n]", "[ \\t\\r]"),
+    ("library", LIBRARY, "MAX_LINE_BYTES, MAX_DATA_BYTES = 65_536, 1_048_576", "MAX_LINE_BYTES, MAX_DATA_BYTES = 65_536, 1_048_575"),
+    ("loss", LIBRARY, "        self._socket.close()\n        self._rest.clear()\n        return Lost", "        return Lost"),
+    ("loss", LIBRARY, "self._waits_for, self._ends = \"greeting\", time.monotonic() + timeout", "self._waits_for, self._ends = \"greeting\", time.monotonic() + 10"),
+    # The manual.
+    ("manual", PAGE, "    q.capacity 5\n", "    q.capacity 6\n"),
+    ("manual", PAGE, "    Idle -> nowhere;\n            ^\n    $ echo", "    Idle -> nowhere;\n           ^\n    $ echo"),
+    ("manual", PAGE, "Connection refused\n    $ echo $?\n    4\n", "Connection refused\n    $ echo $?\n    1\n"),
+    ("manual", PAGE, "```\n0 [b'FromDevice@1', ", "```\n1 [b'FromDevice@1', "),
+    ("example", LIBRARY, "return self.text.rpartition(\"\\n\")[2]", "return self.text"),
+)
