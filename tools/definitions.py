@@ -48,7 +48,10 @@ class Specs:
             text = re.sub(r"--.*", "", text)
             for name in re.findall(rf"^\s*(?:(?:abbrev|unfoldable|def) pub|pub (?:record|data)) ({WORD})", text, re.M):
                 self.places.setdefault(name, set()).add(file)
-            for block in re.findall(r"^pub data .*\n((?: .*\n|\s*\n)*)", text, re.M):
+            for block in re.findall(r"^(?:abbrev|unfoldable) mutual\n((?: .*\n|\s*\n)*)", text, re.M):
+                for name in re.findall(rf"^ +pub ({WORD}) :", block, re.M):
+                    self.places.setdefault(name, set()).add(file)
+            for _, block in re.findall(r"^( *)pub data .*\n((?:\1 .*\n|\s*\n)*)", text, re.M):
                 for name in re.findall(rf"^ +(?:pub )?({WORD})", block, re.M):
                     self.cases.setdefault(name, set()).add(file)
 

@@ -85,9 +85,13 @@ SCRIPTS = (
     Part("examples", "the examples of pages and files give the output that they show", "tools/examples.py", (PROG, PLAYER), ("7777",)),
     Part("tutorial", "the commands of docs/TUTORIAL.md print what it shows", "tools/tutorial.py", (PROG,)),
     Part("sessions", "concurrent sessions over TCP get replies that one thread could get", "tools/sessions.sh", (PROG,), ("7777",)),
+    Part("service", "sessions end in time, lose no reply at their end, and leave nothing behind", "tools/service.py", (PROG,), ("time",)),
     Part("gateway", "the router connects two Linux networks", "examples/gateway/run.sh", (PROG,)),
     Part("ethernet", "the router answers ARP and ICMP between two Ethernets with Linux hosts", "examples/ethernet/run.sh", (PROG,)),
+    Part("testbed", "a line and a ring of routers carry pings over swaps, around a dead router and in a flood", "examples/testbed/run.sh --test", (PROG,), ("time",)),
     Part("page", "the page answers, shows and controls a running router", "tools/page.py", (PROG,)),
+    Part("install", "what ./install.sh installs works, and is removed completely", "tools/install.py", (PROG,)),
+    Part("package", "the Debian package works in a clean root, with systemd", "tools/package.py", (PROG,)),
     Part("alloc_swaps", "each allocation of a session with swaps is refused in turn", "tools/alloc_failures.py swaps", (PROG,)),
     Part("alloc_drivers", "each allocation of a session with drivers is refused in turn", "tools/alloc_failures.py drivers", (PROG,)),
     Part("alloc_pictures", "each allocation of a drawing is refused in turn", "tools/alloc_failures.py pictures", (PROG,)),
@@ -95,6 +99,7 @@ SCRIPTS = (
     Part("swap_faults", "a swap to a faulty configuration changes nothing", "tools/swap_faults.sh", (PROG,)),
     Part("swap_sizes", "swaps at the limits take over each packet", "tools/swap_sizes.sh", (PROG,)),
     Part("client", "a client that waits for each reply gets it", "tools/client.sh", (PROG,)),
+    Part("clickctl", "clickctl and its library answer byte by byte, also over wrong routers", "tools/clickctl.py", (PROG,)),
 )
 
 PROOFS = Part("proofs", "everything that is not kept is proved, with its tests, stored runs and must-fail mutants", "tools/lib/proofs.sh", minutes=600)
@@ -106,6 +111,10 @@ WRONGS = (
     Part("mutants_test", "the runner of the mutants reports those that are not refused, and faulty edits", "tools/mutants_test.sh"),
     Part("run_sh_wrongs", "each test of run.sh fails over a wrong run.sh", "tools/run_sh_test.sh --wrongs"),
     Part("page_wrongs", "the checks of the page fail over a wrong router", "tools/page.py --wrongs no-host-check no-mark-check cors no-policy long-bodies other-page"),
+    Part("clickctl_wrongs", "the checks of clickctl fail over wrong clients", "tools/clickctl.py --wrongs", (PROG,)),
+    Part("wrong_testbeds", "the testbed refuses wrong configurations, swaps and scripts", "examples/testbed/run.sh --wrongs", (PROG,), ("time",)),
+    Part("install_wrongs", "each check of the installation fails over a wrong script or unit", "tools/install.py --wrongs", (PROG,)),
+    Part("package_wrongs", "each check of the package fails over a wrong script or unit", "tools/package.py --wrongs", (PROG,)),
     Part("wrong_network", "the scripts of sessions and links refuse wrong programs", "tools/wrong_programs.sh network", (PROG,), ("time",)),
     Part("wrong_programs", "the other scripts refuse wrong programs", "tools/wrong_programs.sh programs", (PROG, PLAYER), ("7777",)),
     Part("wrong_pages", "the scripts refuse wrong pages and examples", "tools/wrong_programs.sh pages", (PROG, PLAYER), ("7777",)),

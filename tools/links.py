@@ -19,9 +19,9 @@ import re
 import sys
 
 TOP = os.path.dirname(os.path.dirname(os.path.realpath(__file__)))
-OF_TOP = ("docs", "tools", "examples", "bench", "crates", ".ci")
+OF_TOP = ("docs", "tools", "examples", "bench", "crates", "clients", ".ci")
 OF_CRATES = ("src", "specs", "proofs", "wrong-bodies", "by-hand", "must-fail")
-CODE = (".rt", ".antt", ".edit", ".sh", ".py", ".rs", ".c", ".txt", ".click", ".calls", ".rattle")
+CODE = (".rt", ".antt", ".edit", ".sh", ".py", ".rs", ".c", ".txt", ".click", ".calls", ".rattle", "/clickctl")
 # This script contains wrong names on purpose, to show that they are refused.
 SHOWN_TO_FAIL = "tools/wrong_programs.sh"
 LINES, COLUMNS = 130, 120

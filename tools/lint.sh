@@ -9,14 +9,14 @@ list() { find . \( -name out -o -name .git -o -name target \) -prune -o -type f 
 
 status=0
 if command -v shellcheck > /dev/null; then
-    mapfile -t scripts < <(list '*.sh' && echo .ci/run)
+    mapfile -t scripts < <(list '*.sh' && list '*.bash' && echo .ci/run)
     shellcheck "${scripts[@]}" || status=1
     echo "shellcheck: ${#scripts[@]} scripts checked"
 else
     echo 'left out: shellcheck is not installed'
 fi
 if command -v ruff > /dev/null; then
-    mapfile -t scripts < <(list '*.py')
+    mapfile -t scripts < <(list '*.py' && echo clients/clickctl)
     ruff check --select E4,E7,E9,F,B --quiet "${scripts[@]}" || status=1
     echo "ruff: ${#scripts[@]} scripts checked"
 else

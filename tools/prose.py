@@ -5,8 +5,8 @@
     tools/prose.py --check-count
     tools/prose.py --store-count
 
-Reads the pages (.md) and the comments of all .rt, .antt, .sh and .py files, or only of the
-PATHs. Prints a table of counts and the first findings; --all prints every finding. The status
+Reads the pages (.md) and the comments of all .rt, .antt, .sh and .py files and of clickctl, or only
+of the PATHs. Prints a table of counts and the first findings; --all prints every finding. The status
 is 1 if there is a finding.
 
 --check-count compares the number of findings in all files with tools/prose-count.txt. More
@@ -167,8 +167,13 @@ def page_blocks(text: str) -> Iterator[Block]:
     yield from ended()
 
 
+def ending_of(path: str) -> str:
+    """Returns the ending of a file's name, and that of a Python file for clickctl, which has none."""
+    return ".py" if os.path.basename(path) == "clickctl" else os.path.splitext(path)[1]
+
+
 def blocks_of(path: str, text: str) -> Iterator[Block]:
-    ending = os.path.splitext(path)[1]
+    ending = ending_of(path)
     if ending == ".md":
         yield from page_blocks(text)
     elif ending in MARKERS:
@@ -291,7 +296,7 @@ def findings_in(paths: list[str], folder: str) -> tuple[list[Finding], int]:
     found: list[Finding] = []
     count = 0
     for path in paths:
-        is_text = os.path.splitext(path)[1] in (".md", *MARKERS)
+        is_text = ending_of(path) in (".md", *MARKERS)
         if not is_text or os.path.basename(path) in NO_PROSE:
             continue
         text = read(os.path.join(folder, path))

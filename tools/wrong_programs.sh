@@ -211,6 +211,14 @@ case_wrong() {
 sessions_wrong() { case_wrong tools/sessions.sh "$@"; }
 hostile_wrong() { case_wrong tools/hostile.sh "$@"; }
 links_wrong() { case_wrong tools/udp_links.py "$@"; }
+# service_wrong CASE WHAT MESSAGE LINE..: the message has to name the check, because a program that
+# does not start is refused too.
+service_wrong() {
+    local case=$1 what=$2 message=$3
+    shift 3
+    case_wrong tools/service.py "$case" "$what" "$@"
+    if ! grep -q -e "$message" "$work/err"; then fail "a program with $what: wanted a message with: $message" "$(shown "$work/err")"; fi
+}
 gateway_wrong() { case_wrong examples/gateway/run.sh '' "$@"; }
 # ethernet_wrong WHAT MESSAGE LINE..: the message has to name the check, because a configuration that
 # does not start is refused too.
@@ -228,6 +236,19 @@ reworded() { printf 'for word; do shift; set -- "$@" "$(printf %%s "$word" | sed
 # retold SED: prints lines that start the program and change its standard error. The started process
 # is still that of the program, so it ends when a script ends it.
 retold() { echo "told=\$(mktemp -u '$work/told.XXXX'); mkfifo \"\$told\"; sed -u '$1' < \"\$told\" >&2 & exec \"\$program\" \"\$@\" 2> \"\$told\""; }
+# preloaded CODE: prints lines that start the program with these functions in C instead of those of
+# the C library.
+preloaded() {
+    local library
+    library=$(mktemp "$work/library.XXXX.so")
+    printf '%s\n' '#define _GNU_SOURCE' '#include <fcntl.h>' '#include <stdlib.h>' '#include <string.h>' '#include <sys/socket.h>' \
+        '#include <sys/syscall.h>' '#include <sys/time.h>' '#include <unistd.h>' "$1" | cc -shared -fPIC -xc -o "$library" -
+    echo "exec env LD_PRELOAD='$library' \"\$program\" \"\$@\""
+}
+# option CODE: prints lines for a program that does this first when it sets an option of a socket.
+option() { preloaded "int setsockopt(int fd, int level, int name, const void *value, socklen_t size) { $1; return syscall(SYS_setsockopt, fd, level, name, value, size); }"; }
+# accepts CODE: prints lines for a program that does this first when it accepts a connection.
+accepts() { preloaded "int accept4(int fd, struct sockaddr *from, socklen_t *size, int flags) { $1; return syscall(SYS_accept4, fd, from, size, flags); }"; }
 # relayed FAULT: prints lines that start the program behind the relay.
 relayed() { echo "exec python3 '$work/relay.py' $1 \"\$program\" \"\$@\""; }
 
@@ -323,6 +344,21 @@ while os.getppid() == main:
 E
 }
 
+# wrong_service: sessions that end too early, too late or with a reset, and what they leave behind.
+wrong_service() {
+    service_wrong replies 'connections that it resets' 'reset\|Broken pipe\|ends early' "$(preloaded 'int shutdown(int fd, int how) { return -1; }')"
+    service_wrong limits 'connections that it closes at once' 'does not close took' "$(preloaded 'int shutdown(int fd, int how) { return -1; }')"
+    service_wrong limits 'connections that it never closes' 'does not close took\|timed out' "$(option 'if (name == SO_RCVTIMEO) return 0')"
+    service_wrong silent 'a read that waits forever' 'timed out' "$(option 'if (name == SO_RCVTIMEO) return 0')"
+    service_wrong silent 'clients that it ends at once' 'ended early\|while silent clients' "$(option 'struct timeval t = {0, 1000}; if (name == SO_RCVTIMEO) value = &t')"
+    service_wrong unread 'a write that waits forever' 'timed out' "$(option 'if (name == SO_SNDTIMEO) return 0')"
+    service_wrong slow 'a limit that is too short' 'slowly\|reset\|Broken pipe' "$(option 'struct timeval t = {0, 250000}; if (name == SO_RCVTIMEO) value = &t')"
+    service_wrong slow 'a limit of writes that is too short' 'slowly\|reset\|Broken pipe' "$(option 'struct timeval t = {0, 50000}; if (name == SO_SNDTIMEO) value = &t')"
+    service_wrong unlimited 'a limit that was not asked for' 'ended early' "$(option 'struct timeval t = {1, 0}; if (name == SO_RCVTIMEO) value = &t')"
+    service_wrong many 'a descriptor for each session' 'leave descriptors behind' "$(accepts 'open("/dev/null", O_RDONLY)')"
+    service_wrong many 'memory for each session' 'after 100 sessions' "$(accepts 'memset(malloc(8192), 1, 8192)')"
+}
+
 # The gate shows that the scripts pass over the program. Here a starter that changes nothing is
 # tried in one case of each script.
 network() {
@@ -332,6 +368,7 @@ network() {
     chmod +x "$work/listening"
     PROGRAM=$work/listening passes tools/sessions.sh tools/sessions.sh counting
     PROGRAM=$work/listening passes tools/hostile.sh tools/hostile.sh neighbours
+    PROGRAM=$work/listening passes tools/service.py tools/service.py replies many
     PROGRAM=$work/listening PACKETS=20000 passes tools/udp_links.py tools/udp_links.py carrying
 
     sessions_wrong counting 'a router for each session, one after another' "$alone"
@@ -339,6 +376,7 @@ network() {
     sessions_wrong reading 'writes though it may only read' "$writes"
     sessions_wrong clients 'a status that is always 0' '"$program" "$@"' 'exit 0'
     sessions_wrong taken 'a status that is always 0' '"$program" "$@"' 'exit 0'
+    sessions_wrong taken 'no message' 'exec "$program" "$@" 2> /dev/null'
     sessions_wrong swapping 'junk on standard output' 'echo junk' 'exec "$program" "$@"'
     sessions_wrong staying 'an end' "$(printf '%s' "$writes" | sed s/--readonly/--live/)"
 
@@ -353,6 +391,8 @@ network() {
     hostile_wrong local 'an open door' 'export ADDRESS=0.0.0.0' "$alone"
     hostile_wrong readonly 'writes though it may only read' "$writes"
     hostile_wrong rounds 'a round less' "$(exchanged 200000 199999)"
+
+    wrong_service
 
     links_wrong refused 'status 0 at wrong arguments' '"$program" "$@"' 'exit 0'
     links_wrong sizes 'an open door' "$(relayed open)"
@@ -577,7 +617,7 @@ wrong_page_text() {
 # BUILDS is `nothing`.
 gate_tree() {
     local file made
-    mkdir -p "$work/gate/tools/lib" "$work/gate/examples/gateway" "$work/gate/examples/ethernet" "$work/gate/crates"
+    mkdir -p "$work/gate/tools/lib" "$work/gate/examples/gateway" "$work/gate/examples/ethernet" "$work/gate/examples/testbed" "$work/gate/crates"
     cp test.sh "$work/gate"
     cp tools/gate.py "$work/gate/tools"
     cp tools/lib/running.py tools/lib/programs.py "$work/gate/tools/lib"
