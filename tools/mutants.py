@@ -20,9 +20,9 @@ crates.txt, and its src/, specs/, proofs/ and mutants. A crate with another chec
 crate without a line is unrecorded: its mutants were never all tried in one run. The gate counts it
 among the others and names it, and a release needs a line for each crate.
 
-The tenth of the others consists of whole crates, in an order that depends on the checksums. It is
-not a tenth of each crate, because a check loads the libraries below it once for all mutants of a
-round. The mutants in must-fail/ are not tried here: `rt ci` tries them.
+The tenth of the others consists of whole crates, in the order of the checksums of their names and
+sums. It is not a tenth of each crate, because a check loads the libraries below it once for all
+mutants of a round. The mutants in must-fail/ are not tried here: `rt ci` tries them.
 
 An edit has a line 'file: src/lib.rt' and pairs of lines 'old: TEXT' and 'new: TEXT'. Each TEXT is
 one line, and the old one occurs exactly once in the file. An edit that changes more than bodies,
@@ -51,7 +51,6 @@ import argparse
 import functools
 import hashlib
 import os
-import random
 import re
 import shutil
 import subprocess
@@ -560,11 +559,12 @@ def chosen(sums, known):
     """Returns the crates whose mutants the gate tries, as two lists.
 
     The first has the crates that changed since they were recorded. The second has some of the
-    others, with at least a tenth of their mutants.
+    others, with at least a tenth of their mutants. The place of a crate in their order depends on
+    its own checksum only, so that the name of a mutant elsewhere cannot choose which are tried.
     """
     changed = [it for it in sums if it in known and known[it] != sums[it]]
-    others = sorted(it for it in sums if it not in changed)
-    random.Random("".join(sums.values())).shuffle(others)
+    others = [it for it in sums if it not in changed]
+    others.sort(key=lambda it: hashlib.sha256(f"{it} {sums[it]}".encode()).hexdigest())
     wanted, tenth = -(-sum(len(mutants_of(it)) for it in others) // SHARE), []
     while sum(len(mutants_of(it)) for it in tenth) < wanted:
         tenth.append(others[len(tenth)])
