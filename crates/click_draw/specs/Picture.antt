@@ -1,5 +1,5 @@
 -- A drawing of a net.
-use Rattle.std.specs.Prelude.{◌≡◌, ◌↔◌, ℕ, ◌+◌, ◌<◌, ◌≤◌, List, [], length, All, IsTrue, Some, slice_get, slice_index_or}
+use Rattle.std.specs.Prelude.{◌≡◌, ◌↔◌, ℕ, ◌+◌, ◌<◌, ◌≤◌, ◌++◌, List, [], codes, length, All, IsTrue, Some, slice_get, slice_index_or}
 use Rattle.click_classes.specs.declared.ports.Side.{Side}
 use Rattle.click_classes.specs.declared.ports.Side.TheVariants.{Input, Output}
 use Rattle.click_expand.specs.declared.flat.Connection.{Connection}
@@ -14,6 +14,7 @@ use Rattle.click_draw.specs.declared.drawing.Rectangle.{Rectangle}
 use Rattle.click_draw.specs.declared.drawing.Mark.{Mark}
 use Rattle.click_draw.specs.declared.drawing.Look.{Look}
 use Rattle.click_draw.specs.declared.drawing.Figure.{Figure}
+use Rattle.click_draw.specs.declared.drawing.Frame.{Frame}
 use Rattle.click_draw.specs.declared.drawing.Line.{Line}
 
 -- each item of the list has the property, given its index
@@ -94,3 +95,11 @@ pub record Joins (fs : List Figure) (c : Connection) (l : Line) : Type 0 where
 pub record IsLine (fs : List Figure) (cs : List Connection) (k : ℕ) (l : Line) : Type 0 where
   pub number : l.number ≡ k
   pub joins : (c : Connection) → slice_get cs k ≡ Some c → Joins fs c l
+
+-- an element of this name can be in the compound: its name is the compound's, a slash, and more
+abbrev pub IsBelow : List ℕ → List ℕ → Type 0
+IsBelow compound name = (rest : List ℕ) × (name ≡ compound ++ codes "/" ++ rest)
+
+-- the frame of a compound lies over no box of an element that is not in the compound
+abbrev pub IsClear : List Figure → Frame → Type 0
+IsClear fs f = All (λ (g : Figure). Overlap f.around g.frame → IsBelow f.name g.look.name) fs

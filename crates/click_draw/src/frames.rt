@@ -1,12 +1,14 @@
 //! The frames of compounds.
 
-ghost use Rattle.std.specs.Prelude.{All, IfOk, OnOk};
-ghost use Rattle.click_draw.specs.Picture.{IsInside};
+ghost use Rattle.std.specs.Prelude.{◌≡◌, ◌≤◌, ◌↔◌, ◌+◌, ◌<?◌, All, IfOk, IsTrue, OnOk};
+ghost use Rattle.click_draw.specs.Picture.{IsBelow, IsClear, IsInside, Overlap};
 
-use crate::compounds::shared_len;
+use crate::compound_paths::shared_depth;
+use crate::compounds::Compounds;
 use crate::drawing::{Figure, Frame, Rectangle};
 use crate::lines::Size;
 use click_base::sequence::Sequence;
+use click_ports::Net;
 use std::alloc::{AllocError, Global};
 
 /// The distance between a frame and what is in it, in pixels.
@@ -14,6 +16,11 @@ const FRAME_PADDING_PX: u64 = 6;
 
 /// The additional distance at the top of a frame, for its name, in pixels.
 const FRAME_TITLE_PX: u64 = 14;
+
+/// The minimum and the maximum of the depth of compounds that rows have room for.
+const MIN_DEPTH: usize = 2;
+
+const MAX_DEPTH: usize = 200;
 
 /// The sides of a rectangle.
 #[derive(Clone, Copy, Debug, PartialEq, Eq)]
@@ -79,6 +86,20 @@ impl Sides {
     }
 }
 
+/// Returns the height above a row that the frames of compounds need, in pixels.
+///
+/// It is the height for the deepest compound, but at least for a depth of 2 and at most for 200.
+pub fn frame_room(net: &Net, compounds: &Compounds) -> u64
+    ensures { result ≤ 4000 }
+{
+    let elements = 0..net.shapes().len();
+    let deepest = elements
+        .map(|it| compounds.around(net.name(it)).len())
+        .max();
+    let depth = deepest.unwrap_or(0).clamp(MIN_DEPTH, MAX_DEPTH);
+    depth as u64 * (FRAME_PADDING_PX + FRAME_TITLE_PX)
+}
+
 /// A compound that is being processed: the length of its name, and the sides around its elements up
 /// to now.
 #[derive(Clone, Copy, Debug, PartialEq, Eq)]
@@ -105,69 +126,120 @@ fn frame_of(alloc: Global, open: &Open, name: &[u8], size: Size) -> Result<Frame
     })
 }
 
-/// Closes the open compounds that the next name is not in, and adds their frames.
-///
-/// `name` is the previous name; `shared` is the length of its common prefix with the next one. The
-/// innermost compound is closed first.
+/// Closes the innermost of the open compounds, until `depth` of them are left, and adds their
+/// frames. `name` is the name of an element in all of them.
 fn close(
     alloc: Global,
     frames: &mut Vec<Frame>,
     open: &mut Vec<Open>,
     name: &[u8],
-    shared: usize,
+    depth: usize,
     size: Size,
 ) -> Result<(), AllocError>
     requires { All (λ f. IsInside size.width size.height f.around) frames.old.items }
     ensures { OnOk result (All (λ f. IsInside size.width size.height f.around) frames.new.items) }
 {
-    for _level in 0..open.len() {
+    for _level in depth..open.len() {
         let Some(last) = open.pop() else {
             break;
         };
-        if last.len < shared {
-            open.push(last)?;
-            break;
-        }
         frames.push(frame_of(alloc, &last, name, size)?)?;
         widen(open.as_mut_slice(), last.around.widened());
     }
     Ok(())
 }
 
-/// Opens the compounds of the name that are not within its first `shared` bytes.
-fn enter(open: &mut Vec<Open>, name: &[u8], shared: usize) -> Result<(), AllocError> {
-    for (at, byte) in name.iter().enumerate() {
-        if *byte == b'/' && at >= shared {
-            open.push(Open {
-                len: at,
-                around: Sides::none(),
-            })?;
-        }
+/// Opens the compounds whose names have these lengths.
+fn enter(open: &mut Vec<Open>, name_lens: &[usize]) -> Result<(), AllocError> {
+    for len in name_lens {
+        open.push(Open {
+            len: *len,
+            around: Sides::none(),
+        })?;
     }
     Ok(())
 }
 
-/// Returns the frames of the compounds that the figures are in, cut off at the edges of the
+/// Returns the frames of all compounds that the figures are in, cut off at the edges of the
 /// picture.
-pub fn frames_of(
+fn all_frames_of(
     alloc: Global,
     figures: &[Figure],
+    compounds: &Compounds,
     size: Size,
-) -> Result<Sequence<Frame>, AllocError>
-    ensures { IfOk result (All (λ f. IsInside size.width size.height f.around)) }
+) -> Result<Vec<Frame>, AllocError>
+    ensures { IfOk result (λ frames. All (λ f. IsInside size.width size.height f.around) frames.items) }
 {
     let mut frames = Vec::new(alloc);
     let mut open = Vec::new(alloc);
-    let mut before: &[u8] = b"";
+    let mut before: (&[u8], &[usize]) = (b"", &[]);
     for figure in figures {
         let name = figure.look.name.as_slice();
-        let shared = shared_len(before, name);
-        close(alloc, &mut frames, &mut open, before, shared, size)?;
-        enter(&mut open, name, shared)?;
-        widen(&mut open, Sides::of(&figure.frame));
-        before = name;
+        let around = compounds.around(name);
+        let depth = shared_depth(before, (name, around));
+        close(alloc, &mut frames, &mut open, before.0, depth, size)?;
+        enter(&mut open, around.get(depth..).unwrap_or(&[]))?;
+        widen(open.as_mut_slice(), Sides::of(&figure.frame));
+        before = (name, around);
     }
-    close(alloc, &mut frames, &mut open, before, 0, size)?;
+    close(alloc, &mut frames, &mut open, before.0, 0, size)?;
     frames.reverse();
-    Ok(Sequence::of(frames))
+    Ok(frames)
+}
+
+/// Returns whether the range from `start` of this length ends after `at`.
+fn ends_after(start: u64, length: u64, at: u64) -> bool
+    ensures { result ≡ (at <? start + length) }
+{
+    at < start || at - start < length
+}
+
+/// Returns whether two rectangles overlap.
+fn overlap(a: &Rectangle, b: &Rectangle) -> bool
+    ensures { IsTrue result ↔ Overlap a.now b.now }
+{
+    ends_after(b.left, b.width, a.left)
+        && ends_after(a.left, a.width, b.left)
+        && ends_after(b.top, b.height, a.top)
+        && ends_after(a.top, a.height, b.top)
+}
+
+/// Returns whether an element of this flat name can be in the compound.
+fn is_below(compound: &[u8], name: &[u8]) -> bool
+    ensures { IsTrue result → IsBelow compound.now name.now }
+{
+    match name.strip_prefix(compound) {
+        Some(rest) => rest.first() == Some(&b'/'),
+        None => false,
+    }
+}
+
+/// Returns whether the frame lies over no figure of an element that is not in the compound.
+fn is_clear(frame: &Frame, figures: &[Figure]) -> bool
+    ensures { IsTrue result → IsClear figures.now frame.now }
+{
+    figures.iter().all(|figure| {
+        !overlap(&frame.around, &figure.frame)
+            || is_below(frame.name.as_slice(), figure.look.name.as_slice())
+    })
+}
+
+/// Returns the frames of the compounds that the figures are in, cut off at the edges of the
+/// picture. A frame that would lie over the box of another element is left out.
+pub fn frames_of(
+    alloc: Global,
+    figures: &[Figure],
+    compounds: &Compounds,
+    size: Size,
+) -> Result<Sequence<Frame>, AllocError>
+    ensures inside { IfOk result (All (λ f. IsInside size.width size.height f.around)) }
+    ensures clear { IfOk result (All (IsClear figures.now)) }
+{
+    let mut frames = Sequence::new(alloc);
+    for frame in all_frames_of(alloc, figures, compounds, size)? {
+        if is_clear(&frame, figures) {
+            frames.push(frame)?;
+        }
+    }
+    Ok(frames)
 }

@@ -2,13 +2,14 @@
 
 ghost use Rattle.std.specs.Prelude.{◌≡◌, ℕ, ◌+◌, ◌<◌, ◌≤◌, length, slice_index, All, IfOk, OnOk};
 ghost use Rattle.click_draw.specs.Measures.{element_width};
-ghost use Rattle.click_draw.specs.Picture.{AreApart, EachAt, IsFigure, IsInside, IsLine, IsLineInside};
+ghost use Rattle.click_draw.specs.Picture.{AreApart, EachAt, IsClear, IsFigure, IsInside, IsLine, IsLineInside};
 ghost use Rattle.click_draw.specs.kept.Boxed.{IsBoxed};
 ghost use Rattle.click_draw.specs.kept.Placing.{AreSlots};
 
-use crate::compounds::compound_paths_of;
+use crate::compound_paths::compound_paths_of;
+use crate::compounds::Compounds;
 use crate::drawing::{Drawing, Figure, Rectangle};
-use crate::frames::frames_of;
+use crate::frames::{frame_room, frames_of};
 use crate::lines::{Size, lines_of};
 use crate::looks::{element_width, look_of};
 use crate::order::ordered_rows;
@@ -50,9 +51,14 @@ struct Plan {
 /// Plans the places of the net's nodes. The boxes of its elements have these widths.
 ///
 /// The plan affects how the drawing looks, and nothing that is proved of it.
-fn plan_of(alloc: Global, net: &Net, widths: &[u64]) -> Result<Plan, AllocError> {
+fn plan_of(
+    alloc: Global,
+    net: &Net,
+    compounds: &Compounds,
+    widths: &[u64],
+) -> Result<Plan, AllocError> {
     let rows = rows_of(alloc, widths.len(), net.connections())?;
-    let compound_paths = compound_paths_of(alloc, net)?;
+    let compound_paths = compound_paths_of(alloc, net, compounds)?;
     let routes = layout_graph_of(
         alloc,
         net,
@@ -150,8 +156,9 @@ fn figures_of(alloc: Global, net: &Net, boxes: &[Rectangle]) -> Result<Vec<Figur
     Ok(figures)
 }
 
-/// Returns the drawing of a net that has at most as many elements as a flat form can have.
-pub fn layout(alloc: Global, net: &Net) -> Result<Drawing, AllocError>
+/// Returns the drawing of a net that has at most as many elements as a flat form can have, with
+/// frames around these compounds.
+pub fn layout(alloc: Global, net: &Net, compounds: &Compounds) -> Result<Drawing, AllocError>
     requires elements { length net.now.shapes ≤ 4096 }
     // Each element has a figure, in flat order, in a box as large as it needs.
     ensures figures { IfOk result (λ d. length d.figures ≡ length net.now.shapes) }
@@ -165,16 +172,19 @@ pub fn layout(alloc: Global, net: &Net) -> Result<Drawing, AllocError>
     ensures inside { IfOk result (λ d. All (λ f. IsInside d.width d.height f.frame) d.figures) }
     ensures lines_inside { IfOk result (λ d. All (IsLineInside d.width d.height) d.lines) }
     ensures frames_inside { IfOk result (λ d. All (λ f. IsInside d.width d.height f.around) d.frames) }
+    // No frame lies over the box of an element that is not in the compound.
+    ensures clear { IfOk result (λ d. All (IsClear d.figures) d.frames) }
 {
     let mut widths = widths_of(alloc, net)?;
     let Plan {
         preferred_places,
         routes,
-    } = plan_of(alloc, net, widths.as_slice())?;
+    } = plan_of(alloc, net, compounds, widths.as_slice())?;
     let bends = bend_count(preferred_places.len(), widths.len());
     with_bends(&mut widths, bends)?;
     let slots = slots_of(alloc, widths.len(), preferred_places.as_slice())?;
-    let placed = place(alloc, widths.as_slice(), slots.as_slice())?;
+    let room = frame_room(net, compounds);
+    let placed = place(alloc, widths.as_slice(), slots.as_slice(), room)?;
     let boxes = placed.boxes.as_slice();
     let size = Size {
         width: placed.width,
@@ -189,7 +199,7 @@ pub fn layout(alloc: Global, net: &Net) -> Result<Drawing, AllocError>
         boxes,
         size,
     )?;
-    let frames = frames_of(alloc, figures.as_slice(), size)?;
+    let frames = frames_of(alloc, figures.as_slice(), compounds, size)?;
     Ok(Drawing {
         width: size.width,
         height: size.height,

@@ -2,6 +2,7 @@
 #![tactic(auto)]
 
 mod blocks;
+mod compound_paths;
 mod compounds;
 mod drawing;
 mod frames;
@@ -18,6 +19,7 @@ mod routes;
 mod rows;
 mod svg_writing;
 
+pub use compounds::Compounds;
 pub use drawing::{Drawing, Figure, Frame, Line, Look, Mark, Point, Rectangle};
 pub use laying_out::layout;
 pub use picture::{picture_of, resolved};

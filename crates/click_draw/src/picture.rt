@@ -5,6 +5,7 @@ ghost use Rattle.click_classes.specs.declared.state.State.{State};
 ghost use Rattle.click_router.specs.Opened.{AreFresh, IsBegun, IsFirstFault, IsMemoryOr};
 ghost use Rattle.click_draw.specs.Drawn.{IsFormNet, IsLawfulForm, IsNetOf, IsPicture, IsPictureOf};
 
+use crate::compounds::Compounds;
 use crate::laying_out::layout;
 use crate::svg_writing::svg;
 use click_classes::{ArgFault, State, make};
@@ -20,15 +21,17 @@ pub fn picture_of(alloc: Global, text: &[u8]) -> Result<Vec<u8>, ConfigFault>
     ensures fault { IfErr result (λ fault. IsMemoryOr fault (IsFirstFault text.now fault)) }
 {
     let net = net_of(alloc, text)?;
-    Ok(picture_in(alloc, &net)?)
+    let compounds = Compounds::of(alloc, text)?;
+    Ok(picture_in(alloc, &net, &compounds)?)
 }
 
-/// Returns the picture of a net, which has no more elements than a flat form can have.
-fn picture_in(alloc: Global, net: &Net) -> Result<Vec<u8>, AllocError>
+/// Returns the picture of a net with these compounds. It has no more elements than a flat form can
+/// have.
+fn picture_in(alloc: Global, net: &Net, compounds: &Compounds) -> Result<Vec<u8>, AllocError>
     requires { length net.now.shapes ≤ 4096 }
     ensures { IfOk result (λ picture. IsPictureOf net.now picture.items) }
 {
-    let drawing = layout(alloc, net)?;
+    let drawing = layout(alloc, net, compounds)?;
     svg(alloc, &drawing)
 }
 

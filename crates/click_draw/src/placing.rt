@@ -9,11 +9,8 @@ use crate::drawing::Rectangle;
 use crate::measures::{BOX_GAP_PX, BOX_HEIGHT};
 use std::alloc::{AllocError, Global};
 
-/// The free distance between two rows, in pixels.
-const ROW_SPACING_PX: u64 = 44;
-
-/// The top of the first row, in pixels, which is below the title of a frame.
-const FIRST_ROW_PX: u64 = 40;
+/// The free distance between two rows beyond the room for frames, in pixels.
+const ROW_SPACING_PX: u64 = 4;
 
 /// The maximum of a preferred distance from the left, in pixels.
 const FURTHEST: u64 = 0x1_0000_0000;
@@ -43,9 +40,10 @@ impl Pen {
     ghost use Rattle.click_draw.specs.kept.Placing.{Draws, IsNear};
 
     /// Places the box of a slot, and returns it with the pen after it. `drawn` boxes were placed
-    /// before.
-    fn draw(self, slot: &Slot, width: u64, drawn: usize) -> (Rectangle, Pen)
+    /// before, and frames have `room` pixels above each row.
+    fn draw(self, slot: &Slot, width: u64, drawn: usize, room: u64) -> (Rectangle, Pen)
         requires wide { width ≤ 32788 }
+        requires room { room ≤ 4000 }
         requires few { drawn ≤ 131072 }
         requires near { IsNear drawn self }
         ensures draws { Draws self width result.0 result.1 }
@@ -53,7 +51,7 @@ impl Pen {
     {
         let new_row = slot.row != self.row;
         let top = if new_row {
-            self.top + BOX_HEIGHT + ROW_SPACING_PX
+            self.top + BOX_HEIGHT + ROW_SPACING_PX + room
         } else {
             self.top
         };
@@ -84,9 +82,11 @@ pub struct Placed {
     pub height: u64,
 }
 
-/// Places the boxes of nodes with these widths, in the order of the slots.
-pub fn place(alloc: Global, widths: &[u64], slots: &[Slot]) -> Result<Placed, AllocError>
+/// Places the boxes of nodes with these widths, in the order of the slots. Frames have `room`
+/// pixels above each row.
+pub fn place(alloc: Global, widths: &[u64], slots: &[Slot], room: u64) -> Result<Placed, AllocError>
     requires few { length widths.now ≤ 131072 }
+    requires room { room ≤ 4000 }
     requires wide { All (λ w. w ≤ 32788) widths.now }
     requires slots { AreSlots (length widths.now) slots.now }
     ensures all { IfOk result (λ p. length p.boxes.items ≡ length widths.now) }
@@ -104,12 +104,12 @@ pub fn place(alloc: Global, widths: &[u64], slots: &[Slot]) -> Result<Placed, Al
     let mut boxes = vec![in alloc; none; widths.len()]?;
     let mut pen = Pen {
         row: 0,
-        top: FIRST_ROW_PX,
+        top: room,
         free: BOX_GAP_PX,
         furthest: 0,
     };
     for (drawn, slot) in slots.iter().enumerate() {
-        let (frame, next) = pen.draw(slot, widths[slot.node], drawn);
+        let (frame, next) = pen.draw(slot, widths[slot.node], drawn, room);
         boxes[slot.node] = frame;
         pen = next;
     }

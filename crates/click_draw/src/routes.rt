@@ -1,6 +1,6 @@
 //! The nodes of the rows: the elements, and the bends of lines that pass rows.
 
-use crate::compounds::CompoundPath;
+use crate::compound_paths::CompoundPath;
 use crate::measures::port_offset;
 use click_classes::Side;
 use click_expand::Connection;

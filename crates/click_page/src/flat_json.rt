@@ -9,7 +9,7 @@ ghost use Rattle.click_page.specs.Form.{IsFlatText, IsFormText, bytes_data, conn
 
 use crate::values::{json_text, push, text_value};
 use click_base::Class;
-use click_draw::{Drawing, Figure, Mark, layout, resolved};
+use click_draw::{Compounds, Drawing, Figure, Mark, layout, resolved};
 use click_expand::{Connection, Flat, FlatElement};
 use click_handlers::{reads_of, writes_of};
 use click_ports::Net;
@@ -127,7 +127,8 @@ fn form_text(alloc: Global, flat: &Flat, net: &Net) -> Result<Vec<u8>, AllocErro
     requires few { length net.now.shapes ≤ 4096 }
     ensures { IfOk result (λ made. IsFormText flat.now net.now made.items) }
 {
-    let drawing = layout(alloc, net)?;
+    // The marks of the ports are needed, and no frames.
+    let drawing = layout(alloc, net, &Compounds::none(alloc))?;
     json_text(alloc, &flat_value(alloc, flat, &drawing)?)
 }
 

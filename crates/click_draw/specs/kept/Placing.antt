@@ -22,7 +22,7 @@ pub record ArePacked (rs : List Rectangle) (p : Pen) : Type 0 where
 
 -- a bound of how far the pen has moved after k boxes
 pub record IsNear (k : ℕ) (p : Pen) : Type 0 where
-  pub top : p.top ≤ 40 + 90 * k
+  pub top : p.top ≤ 4000 + 4050 * k
   pub free : p.free ≤ 8589934592 + 65536 * k
   pub furthest : p.furthest ≤ 8589934592 + 65536 * k
 

@@ -4,7 +4,7 @@ use super::nets::net_of;
 use super::stop::Stop;
 use super::words::read_number;
 use click_base::sequence::Sequence;
-use click_draw::{Drawing, Figure, Frame, Rectangle, layout, svg};
+use click_draw::{Compounds, Drawing, Figure, Frame, Rectangle, layout, svg};
 use memchr::memmem;
 use std::alloc::{AllocError, Global};
 
@@ -14,7 +14,7 @@ fn drawing_of(alloc: Global, text: &[u8]) -> Result<Drawing, Stop> {
     if net.shapes().len() > 4096 {
         return Err(Stop::Malformed);
     }
-    Ok(layout(alloc, &net)?)
+    Ok(layout(alloc, &net, &Compounds::of(alloc, text)?)?)
 }
 
 /// Returns the picture of a configuration, without the style that all pictures have.
