@@ -1,5 +1,5 @@
 -- Lemmas on the net of a flat form that satisfies the port rules.
-use Rattle.std.proofs.Common.{◌≡◌, ◌⊎◌, ◌<◌, ◌∙◌, ℕ, zero, suc, List, [], ◌∷◌, length, get_or, Some, Result, Ok, Err, Bool, true, false, inl, inr, sym, subst, arith}
+use Rattle.std.proofs.Common.{◌≡◌, ◌⊎◌, ◌<◌, ◌∙◌, ℕ, zero, suc, List, [], ◌∷◌, length, get_or, Result, Ok, Err, Bool, true, false, inl, inr, sym, subst, arith}
 use Rattle.click_classes.specs.Made.{IsMade}
 use Rattle.click_classes.specs.declared.fault.ArgFault.{ArgFault}
 use Rattle.click_classes.specs.declared.fault.ArgFault.TheVariants.{NoMemory}

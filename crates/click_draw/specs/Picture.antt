@@ -1,5 +1,6 @@
 -- A drawing of a net.
-use Rattle.std.specs.Prelude.{◌≡◌, ◌↔◌, ℕ, ◌+◌, ◌<◌, ◌≤◌, ◌++◌, List, [], codes, length, All, IsTrue, Some, slice_get, slice_index_or}
+use Rattle.std.specs.Prelude.{◌≡◌, ◌↔◌, ℕ, ◌+◌, ◌<◌, ◌≤◌, List, [], codes, length, take, drop, All, IsTrue, Some, slice_get, slice_index_or}
+use Rattle.std.specs.Str.{bytes_eq}
 use Rattle.click_classes.specs.declared.ports.Side.{Side}
 use Rattle.click_classes.specs.declared.ports.Side.TheVariants.{Input, Output}
 use Rattle.click_expand.specs.declared.flat.Connection.{Connection}
@@ -96,9 +97,11 @@ pub record IsLine (fs : List Figure) (cs : List Connection) (k : ℕ) (l : Line)
   pub number : l.number ≡ k
   pub joins : (c : Connection) → slice_get cs k ≡ Some c → Joins fs c l
 
--- an element of this name can be in the compound: its name is the compound's, a slash, and more
+-- an element of this name can be in the compound: its name begins with that of the compound, and a
+-- slash follows
 abbrev pub IsBelow : List ℕ → List ℕ → Type 0
-IsBelow compound name = (rest : List ℕ) × (name ≡ compound ++ codes "/" ++ rest)
+IsBelow compound name =
+    IsTrue (bytes_eq compound (take (length compound) name)) × IsTrue (bytes_eq (codes "/") (take 1 (drop (length compound) name)))
 
 -- the frame of a compound lies over no box of an element that is not in the compound
 abbrev pub IsClear : List Figure → Frame → Type 0

@@ -1,6 +1,6 @@
 //! The frames of compounds.
 
-ghost use Rattle.std.specs.Prelude.{◌≡◌, ◌≤◌, ◌↔◌, ◌+◌, ◌<?◌, All, IfOk, IsTrue, OnOk};
+ghost use Rattle.std.specs.Prelude.{◌≤◌, ◌↔◌, ◌+◌, ◌<◌, All, IfOk, IsTrue, OnOk};
 ghost use Rattle.click_draw.specs.Picture.{IsBelow, IsClear, IsInside, Overlap};
 
 use crate::compound_paths::shared_depth;
@@ -126,70 +126,9 @@ fn frame_of(alloc: Global, open: &Open, name: &[u8], size: Size) -> Result<Frame
     })
 }
 
-/// Closes the innermost of the open compounds, until `depth` of them are left, and adds their
-/// frames. `name` is the name of an element in all of them.
-fn close(
-    alloc: Global,
-    frames: &mut Vec<Frame>,
-    open: &mut Vec<Open>,
-    name: &[u8],
-    depth: usize,
-    size: Size,
-) -> Result<(), AllocError>
-    requires { All (λ f. IsInside size.width size.height f.around) frames.old.items }
-    ensures { OnOk result (All (λ f. IsInside size.width size.height f.around) frames.new.items) }
-{
-    for _level in depth..open.len() {
-        let Some(last) = open.pop() else {
-            break;
-        };
-        frames.push(frame_of(alloc, &last, name, size)?)?;
-        widen(open.as_mut_slice(), last.around.widened());
-    }
-    Ok(())
-}
-
-/// Opens the compounds whose names have these lengths.
-fn enter(open: &mut Vec<Open>, name_lens: &[usize]) -> Result<(), AllocError> {
-    for len in name_lens {
-        open.push(Open {
-            len: *len,
-            around: Sides::none(),
-        })?;
-    }
-    Ok(())
-}
-
-/// Returns the frames of all compounds that the figures are in, cut off at the edges of the
-/// picture.
-fn all_frames_of(
-    alloc: Global,
-    figures: &[Figure],
-    compounds: &Compounds,
-    size: Size,
-) -> Result<Vec<Frame>, AllocError>
-    ensures { IfOk result (λ frames. All (λ f. IsInside size.width size.height f.around) frames.items) }
-{
-    let mut frames = Vec::new(alloc);
-    let mut open = Vec::new(alloc);
-    let mut before: (&[u8], &[usize]) = (b"", &[]);
-    for figure in figures {
-        let name = figure.look.name.as_slice();
-        let around = compounds.around(name);
-        let depth = shared_depth(before, (name, around));
-        close(alloc, &mut frames, &mut open, before.0, depth, size)?;
-        enter(&mut open, around.get(depth..).unwrap_or(&[]))?;
-        widen(open.as_mut_slice(), Sides::of(&figure.frame));
-        before = (name, around);
-    }
-    close(alloc, &mut frames, &mut open, before.0, 0, size)?;
-    frames.reverse();
-    Ok(frames)
-}
-
 /// Returns whether the range from `start` of this length ends after `at`.
 fn ends_after(start: u64, length: u64, at: u64) -> bool
-    ensures { result ≡ (at <? start + length) }
+    ensures { IsTrue result ↔ at < start + length }
 {
     at < start || at - start < length
 }
@@ -208,10 +147,11 @@ fn overlap(a: &Rectangle, b: &Rectangle) -> bool
 fn is_below(compound: &[u8], name: &[u8]) -> bool
     ensures { IsTrue result → IsBelow compound.now name.now }
 {
-    match name.strip_prefix(compound) {
-        Some(rest) => rest.first() == Some(&b'/'),
-        None => false,
+    if !name.starts_with(compound) {
+        return false;
     }
+    let after_compound = &name[compound.len()..];
+    after_compound.starts_with(b"/")
 }
 
 /// Returns whether the frame lies over no figure of an element that is not in the compound.
@@ -222,6 +162,64 @@ fn is_clear(frame: &Frame, figures: &[Figure]) -> bool
         !overlap(&frame.around, &figure.frame)
             || is_below(frame.name.as_slice(), figure.look.name.as_slice())
     })
+}
+
+/// A picture of this size with these figures.
+#[derive(Clone, Copy)]
+struct Picture<'a> {
+    figures: &'a [Figure],
+    size: Size,
+}
+
+/// Adds a frame, unless it would lie over the box of an element that is not in the compound.
+fn push_clear(frames: &mut Vec<Frame>, frame: Frame, picture: Picture) -> Result<(), AllocError>
+    requires inside { All (λ f. IsInside picture.size.width picture.size.height f.around) frames.old.items }
+    requires clear { All (IsClear picture.figures.now) frames.old.items }
+    requires frame { IsInside picture.size.width picture.size.height frame.around }
+    ensures inside { OnOk result (All (λ f. IsInside picture.entry.size.width picture.entry.size.height f.around) frames.new.items) }
+    ensures clear { OnOk result (All (IsClear picture.entry.figures.now) frames.new.items) }
+{
+    if is_clear(&frame, picture.figures) {
+        frames.push(frame)?;
+    }
+    Ok(())
+}
+
+/// Closes the innermost of the open compounds, until `depth` of them are left. `name` is the name
+/// of an element in all of them. Adds their frames, without those that would lie over other boxes.
+fn close(
+    alloc: Global,
+    frames: &mut Vec<Frame>,
+    open: &mut Vec<Open>,
+    name: &[u8],
+    depth: usize,
+    picture: Picture,
+) -> Result<(), AllocError>
+    requires inside { All (λ f. IsInside picture.size.width picture.size.height f.around) frames.old.items }
+    requires clear { All (IsClear picture.figures.now) frames.old.items }
+    ensures inside { OnOk result (All (λ f. IsInside picture.entry.size.width picture.entry.size.height f.around) frames.new.items) }
+    ensures clear { OnOk result (All (IsClear picture.entry.figures.now) frames.new.items) }
+{
+    for _level in depth..open.len() {
+        let Some(last) = open.pop() else {
+            break;
+        };
+        let frame = frame_of(alloc, &last, name, picture.size)?;
+        push_clear(frames, frame, picture)?;
+        widen(open.as_mut_slice(), last.around.widened());
+    }
+    Ok(())
+}
+
+/// Opens the compounds whose names have these lengths.
+fn enter(open: &mut Vec<Open>, name_lens: &[usize]) -> Result<(), AllocError> {
+    for len in name_lens {
+        open.push(Open {
+            len: *len,
+            around: Sides::none(),
+        })?;
+    }
+    Ok(())
 }
 
 /// Returns the frames of the compounds that the figures are in, cut off at the edges of the
@@ -235,11 +233,20 @@ pub fn frames_of(
     ensures inside { IfOk result (All (λ f. IsInside size.width size.height f.around)) }
     ensures clear { IfOk result (All (IsClear figures.now)) }
 {
-    let mut frames = Sequence::new(alloc);
-    for frame in all_frames_of(alloc, figures, compounds, size)? {
-        if is_clear(&frame, figures) {
-            frames.push(frame)?;
-        }
+    let picture = Picture { figures, size };
+    let mut frames = Vec::new(alloc);
+    let mut open = Vec::new(alloc);
+    let mut before: (&[u8], &[usize]) = (b"", &[]);
+    for figure in figures {
+        let name = figure.look.name.as_slice();
+        let around = compounds.around(name);
+        let depth = shared_depth(before, (name, around));
+        close(alloc, &mut frames, &mut open, before.0, depth, picture)?;
+        enter(&mut open, around.get(depth..).unwrap_or(&[]))?;
+        widen(open.as_mut_slice(), Sides::of(&figure.frame));
+        before = (name, around);
     }
-    Ok(frames)
+    close(alloc, &mut frames, &mut open, before.0, 0, picture)?;
+    frames.reverse();
+    Ok(Sequence::of(frames))
 }

@@ -1,4 +1,4 @@
-use Rattle.std.proofs.Common.{◌∙◌, ap, refl, sym}
+use Rattle.std.proofs.Common.{refl}
 use Rattle.click_draw.proofs.OpenedNet.{holds-not-fails, refused-memory}
 use Rattle.click_draw.proofs.picture.state_of.Goals as goal
 
