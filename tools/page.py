@@ -1,13 +1,15 @@
 #!/usr/bin/env python3
 """Checks the page of a running router, by plain sockets and in a headless Chromium. By sockets:
 foreign hosts, writes without the header, and slow, large and many requests, while a session is
-answered, and its metrics by a parser of their format. Also where the page listens, large answers to clients that read slowly or close,
-connections that wait, and a run that ends with its session. In the browser: the picture, live
-counters, a write that a session sees, and swaps by the page and by a session. And a Prometheus
-scrapes the page and answers queries.
+answered, and its metrics by a parser of their format. Also where the page listens, large answers to
+clients that read slowly or close, connections that wait, and a run that ends with its session. In
+the browser: the picture, live counters, a write that a session sees, and swaps by the page and by a
+session. Also a mesh of 4,000 elements: what is drawn and read of it, the time of a click, and the
+processor time of an idle page. And a Prometheus scrapes the page and answers queries.
 
-    tools/page.py [--part sockets|connections|browser|prometheus] [--shots FOLDER] [PROGRAM [WORD..]]
-    tools/page.py --mock [--wrong WHAT] [--part sockets|browser|prometheus] [--shots FOLDER]
+    tools/page.py [--part sockets|connections|browser|large|prometheus] [--shots FOLDER] [PROGRAM [WORD..]]
+    tools/page.py --mock [--wrong WHAT] [--part sockets|browser|large|prometheus] [--shots FOLDER]
+    tools/page.py --part large --check WHAT ..
     tools/page.py --wrongs [WHAT..]
 
 The router is started as PROGRAM WORD.. -e TEXT --live -p P -w 1 --page Q, and for one check
@@ -15,12 +17,15 @@ without --live, -p and -w. If no program is given, it is the one that the variab
 else the proved one. With --mock it is tools/page_mock.py, which --wrong makes wrong in one point.
 The part `connections` needs a program.
 
+--check makes one check of the part `large`, after the page was opened.
+
 --wrongs shows that the checks can fail. It makes the mock wrong in each point, or only in these.
 The check of that point has to fail. --shots writes screenshots of the page over four
 configurations.
 
 Chromium and Prometheus are Debian's (apt-get install chromium prometheus). Without Chromium the
-part `browser` and the screenshots are left out, and without Prometheus the part `prometheus`. The last line is 'N passed, M failed', and the status is 1 if a check failed.
+parts `browser` and `large` and the screenshots are left out, and without Prometheus the part
+`prometheus`. The last line is 'N passed, M failed', and the status is 1 if a check failed.
 """
 import argparse
 import base64
@@ -45,11 +50,14 @@ TOP = os.path.dirname(os.path.dirname(os.path.realpath(__file__)))
 sys.path.insert(0, f"{TOP}/tools/lib")
 from chromium import Browser, BrowserFault  # noqa: E402
 from exposition import Metrics  # noqa: E402
+import large_page  # noqa: E402
+import mesh  # noqa: E402
+from outcome import SECONDS, Wrong, same, until  # noqa: E402
 from programs import path_of  # noqa: E402
 from prometheus import Prometheus  # noqa: E402
 
-# The maximum seconds until the router ends a slow request head, and until anything else happens.
-PATIENCE, SECONDS = 60, 10
+# The maximum seconds until the router ends a slow request head.
+PATIENCE = 60
 
 
 def text_of(path):
@@ -65,26 +73,6 @@ WATCHED_NAMES = "InfiniteSource@1 c s left/c left/q Unqueue@5 Discard@6 right/c 
 SWAPPED_NAMES = "InfiniteSource@1 c fresh Discard@4".split()
 WATCHED_CONNECTIONS, SWAPPED_CONNECTIONS = 11, 3
 SHOTS = {"ip_router": "examples/calls/ip_router.click", "counter": "examples/counter.click", "compounds": "examples/compounds.click", "watched": "tools/page_mock/watched.click"}
-
-
-class Wrong(Exception):
-    """A failed check; the text says what is wrong."""
-
-
-def same(wanted, came, what):
-    """Checks that two values are equal."""
-    if wanted != came:
-        raise Wrong(f"{what}: wanted {wanted!r:.300}, came {came!r:.300}")
-
-
-def until(is_so, what, seconds=SECONDS):
-    """Waits until `is_so` returns something true, and returns it; raises Wrong after `seconds`."""
-    ends = time.monotonic() + seconds
-    while not (value := is_so()):
-        if time.monotonic() > ends:
-            raise Wrong(f"in {seconds} s not: {what}")
-        time.sleep(0.1)
-    return value
 
 
 class Tally:
@@ -150,7 +138,11 @@ class Router:
 
     def start(self):
         self.process = subprocess.Popen(self.words, **self.pipes)
-        until(self.is_there, "the router listens")
+        try:
+            until(self.is_there, "the router listens", 3 * SECONDS)
+        except Wrong:
+            self.stop()
+            raise
 
     def is_there(self):
         if self.process.poll() is not None:
@@ -1049,6 +1041,20 @@ def try_browser(tally, browser, router, session, command):
     tally.check("a router that may only be read", shows_denials, browser, command)
 
 
+def try_large(tally, browser, command, only):
+    """Makes the checks over the mesh, of a router of its own: all, or the first and this one."""
+    with Router(command, mesh.text()) as router:
+        session = Session(router)
+        large = large_page.Large(browser, router, session, large_page.Picture(Client(router, session).ask("/picture.svg").body.decode()))
+        for at, (what, act) in enumerate(large_page.CHECKS.items()):
+            if at == 0 or only in (None, what):
+                tally.check(what, act, large)
+        if not only:
+            tally.check(large_page.SWAP, large_page.swaps_mesh, large, SWAPPED)
+            tally.check("the browser finds no error with it", has_no_errors, browser)
+        session.close()
+
+
 def take_shots(browser, command, folder):
     os.makedirs(folder, exist_ok=True)
     browser.ask("Emulation.setEmulatedMedia", features=[{"name": "prefers-color-scheme", "value": "light"}])
@@ -1061,6 +1067,7 @@ def take_shots(browser, command, folder):
 
 # ---- All of it
 
+PARTS = {"sockets": SOCKETS, "prometheus": PROMETHEUS, "large": large_page.CHECKS}
 # For each point in which the mock can be wrong, the check that has to fail.
 SEEN_BY = {
     "no-host-check": "a foreign Host is refused",
@@ -1116,6 +1123,16 @@ SEEN_BY = {
     "page-with-attribute": "the browser finds no error",
     "page-that-says-nothing": "a router that is gone and comes back",
     "page-that-gives-up": "a router that is gone and comes back",
+    "page-that-draws-all": "what is seen of it is in the page, and no more",
+    "page-that-never-looks-again": "what is seen of it is in the page, and no more",
+    "page-that-reads-all": "what is seen of it is read, and no more",
+    "page-that-reads-less": "what is seen of it is read, and no more",
+    "page-that-answers-late": f"a click on one of its elements answers within {large_page.MS} ms",
+    "page-that-works-on": f"it takes less than {large_page.PART:.0%} of a processor",
+    "page-with-all-rows": "its lists have the rows that are seen",
+    "page-without-neighbours": "Tab goes through its elements",
+    "page-with-a-dead-map": "a click on its map opens an element",
+    "page-that-prints-less": "it is printed as a whole",
 }
 
 
@@ -1127,8 +1144,9 @@ def try_wrongs(names):
         what = SEEN_BY[wrong]
 
         def is_seen():
-            part = "sockets" if what in SOCKETS else "prometheus" if what in PROMETHEUS else "browser"
-            did = subprocess.run([sys.executable, __file__, "--mock", "--wrong", wrong, "--part", part], capture_output=True, text=True)
+            part = next((part for part, checks in PARTS.items() if what in checks), "browser")
+            only = ["--check", what] if part == "large" else []
+            did = subprocess.run([sys.executable, __file__, "--mock", "--wrong", wrong, "--part", part, *only], capture_output=True, text=True)
             if did.returncode != 1 or f"FAILED  {what}" not in did.stdout:
                 raise Wrong(f"it ended with status {did.returncode} and printed {did.stdout[-1500:]}{did.stderr[-500:]}")
 
@@ -1148,25 +1166,38 @@ def try_all(command, given):
 
 def try_router(tally, command, given):
     """Makes the checks by sockets and in the browser, of one router."""
-    program = shutil.which("chromium")
     with Router(command, WATCHED) as router:
         session = Session(router)
         if given.part in (None, "sockets"):
             try_sockets(tally, router, session)
         if given.part in (None, "prometheus"):
             try_prometheus(tally, router)
-        if given.part in ("sockets", "prometheus"):
-            return
-        if not program:
-            print("left out: the part browser, because chromium is not installed (apt-get install chromium)")
-            return
-        browser = Browser(program)
-        try:
-            try_browser(tally, browser, router, session, command)
-            if given.shots:
-                take_shots(browser, command, given.shots)
-        finally:
-            browser.close()
+        if given.part in (None, "browser"):
+            with browser_of("browser") as browser:
+                if browser:
+                    try_browser(tally, browser, router, session, command)
+                if browser and given.shots:
+                    take_shots(browser, command, given.shots)
+    if given.part in (None, "large"):
+        # It measures times, so it does not give way to others as much.
+        with browser_of("large", nice=0) as browser:
+            if browser:
+                try_large(tally, browser, command, given.check)
+
+
+@contextlib.contextmanager
+def browser_of(part, nice=15):
+    """Yields a browser for a part of the checks, or None if Chromium is not installed."""
+    program = shutil.which("chromium")
+    if not program:
+        print(f"left out: the part {part}, because chromium is not installed (apt-get install chromium)")
+        yield None
+        return
+    browser = Browser(program, nice)
+    try:
+        yield browser
+    finally:
+        browser.close()
 
 
 def main():
@@ -1174,7 +1205,8 @@ def main():
     words.add_argument("--mock", action="store_true")
     words.add_argument("--wrong", choices=page_mock.WRONGS)
     words.add_argument("--wrongs", nargs="*", metavar="WHAT")
-    words.add_argument("--part", choices=["sockets", "connections", "browser", "prometheus"])
+    words.add_argument("--part", choices=["sockets", "connections", "browser", "large", "prometheus"])
+    words.add_argument("--check", choices=large_page.CHECKS, metavar="WHAT")
     words.add_argument("--shots")
     words.add_argument("command", nargs=argparse.REMAINDER)
     given = words.parse_args()

@@ -6,7 +6,7 @@ pictures are stored, with numbers that change over time.
     page_mock.py -e TEXT --page PORT [-p PORT] [--readonly] [--wrong WHAT]
 
 It knows the configurations of tools/page_mock, examples/counter.click, examples/compounds.click and
-examples/calls/ip_router.click. All others have a fault, at the word `nowhere` or else at their end.
+examples/calls/ip_router.click, and the mesh of tools/lib/mesh.py. All others have a fault, at the word `nowhere` or else at their end.
 With --wrong it is wrong in one point (WRONGS below), to show that tools/page.py checks this point.
 Other options of click_prog are accepted and ignored.
 """
@@ -23,7 +23,11 @@ import threading
 import time
 import urllib.parse
 
+sys.dont_write_bytecode = True
 TOP = os.path.dirname(os.path.dirname(os.path.realpath(__file__)))
+sys.path.insert(0, f"{TOP}/tools/lib")
+import mesh  # noqa: E402
+
 MOCK = f"{TOP}/tools/page_mock"
 PAGE = f"{TOP}/crates/click_page/page/page.html"
 PICTURES = {
@@ -55,7 +59,9 @@ WRONGS = """no-host-check no-target-check no-mark-check cors no-policy other-pol
 many-connections stuck-sessions other-element less-connections other-flat still-counter lost-write other-place no-place fault-installs no-redraw unseen-swap
 no-denial any-query empty-handler utf-8-names no-absolute-form capital-hosts no-allow no-head no-types less-metrics other-metrics all-gauges
 bad-sample still-metrics untyped no-room other-room""".split()
-# Edits of the page: a text that occurs once, and its replacement.
+# Edits of the page: texts that occur once, each followed by its replacement.
+DRAWS_ALL = "isWhole = isAll || parts.length <= PARTS.whole", "isWhole = true"
+READS_ALL = "if (watches.reduce((sum, it) => sum + it.handlers.length, 2) <= MOST_HANDLERS) return watches;", "return watches;"
 PAGE_EDITS = {
     "page-with-markup": ("it.textContent = text;\n  for", "it.innerHTML = text;\n  for"),
     "page-without-keys": ('$("drawing").addEventListener("keydown", press);', ""),
@@ -69,6 +75,16 @@ PAGE_EDITS = {
     "page-with-attribute": ('<main>', '<main onclick="this.title = 1"><script>0</script>'),
     "page-that-says-nothing": ("The router cannot be read, and is tried", "The router is tried"),
     "page-that-gives-up": ("  isRunning = false;\n  plan();\n", '  if ($("trouble").textContent === "") isRunning = false, plan();\n'),
+    "page-that-draws-all": DRAWS_ALL,
+    "page-that-never-looks-again": ('document.addEventListener("scroll", seeAgain, { capture: true, passive: true });', ""),
+    "page-that-reads-all": READS_ALL,
+    "page-that-reads-less": ("it.at === chosen || it.row || isSeen(it)", "it.at === chosen || it.row"),
+    "page-that-answers-late": (*DRAWS_ALL, *READS_ALL),
+    "page-that-works-on": (*DRAWS_ALL, *READS_ALL),
+    "page-with-all-rows": ("isLong = count > ROWS.all", "isLong = false"),
+    "page-without-neighbours": ("Math.abs(at - focused) <= 1", "at === focused"),
+    "page-with-a-dead-map": ("figure || !drawing.isMap", "figure || true"),
+    "page-that-prints-less": ("showVisible(true, isAll);", "showVisible(true);"),
 }
 WRONGS += PAGE_EDITS
 
@@ -93,8 +109,8 @@ def text_in(text, name, kind):
     return text_in(text, way[-1], "") if way and written.startswith("$") else written
 
 
-def flat_of(picture, text):
-    """Returns the flat form of a picture.
+def flat_of(picture, text_of):
+    """Returns the flat form of a picture. `text_of` returns the text of an element, by name and class.
 
     The marks of the ports show their kinds, and the ends of the lines show which ports are
     connected.
@@ -110,7 +126,7 @@ def flat_of(picture, text):
             places[is_output, end] = int(at), len(sides[is_output])
             sides[is_output].append({"agnostic": bool(rim), "pull": way == "pull"})
         reads, writes = HANDLERS.get(kind, ([], []))
-        elements.append({"class": kind, "inputs": sides[0], "name": name, "outputs": sides[1], "reads": reads, "text": text_in(text, name, kind), "writes": writes})
+        elements.append({"class": kind, "inputs": sides[0], "name": name, "outputs": sides[1], "reads": reads, "text": text_of(name, kind), "writes": writes})
     connections = []
     for points in re.findall(r'<polyline id="c\d+" points="([^"]*)"', picture):
         ends = [tuple(map(int, point.split(","))) for point in points.split()]
@@ -138,9 +154,10 @@ class Router:
         """
         for file, picture in PICTURES.items():
             if file_text(file).rstrip() == text.rstrip():
-                self.text, self.picture = text, file_text(picture)
-                self.flat = flat_of(self.picture, text)
-                return
+                return self.start(text, file_text(picture), lambda name, kind: text_in(text, name, kind))
+        if text.rstrip() == mesh.text().rstrip():
+            head = re.search(r"<style>.*</marker>\n", file_text(f"{MOCK}/watched.svg"), re.S)[0]
+            return self.start(text, mesh.picture(head), lambda _, kind: mesh.TEXTS.get(kind, ""))
         before = text[: text.find("nowhere")] if "nowhere" in text else text
         line, column = before.count("\n") + 1, len(before.encode().split(b"\n")[-1]) + 1
         name = "11 UnknownName" if "nowhere" in text else "4 Unexpected"
@@ -149,13 +166,17 @@ class Router:
             self.text = text
         raise Fault(520, "Write handler 'hotconfig' error:", name + place)
 
+    def start(self, text, picture, text_of):
+        self.text, self.picture, self.flat = text, picture, flat_of(picture, text_of)
+        self.places = {it["name"]: at for at, it in enumerate(self.flat["elements"])}
+
     def element(self, handler):
         """Returns the index of a handler's element, the element, and the handler's name in it."""
         name, _, own = handler.rpartition(".")
-        found = [it for it in self.flat["elements"] if it["name"] == name]
-        if not found:
+        if name not in self.places:
             raise Fault(510, f"No element named '{name}'")
-        return self.flat["elements"].index(found[0]), found[0], own
+        at = self.places[name]
+        return at, self.flat["elements"][at], own
 
     def moving(self, at, own, element):
         """Returns the present value of a number.
@@ -237,12 +258,20 @@ def entry(answer):
     return {"done": True} if answer is None else {"value": as_bytes(answer)}
 
 
+def edited_page(wrong):
+    """Returns the page, wrong in one point if it is one of the page's."""
+    page, edits = file_text(PAGE), PAGE_EDITS.get(wrong, ())
+    for old, new in zip(edits[::2], edits[1::2]):
+        page = page.replace(old, new)
+    return page
+
+
 class Page:
     """The HTTP service of the page, over a router."""
 
     def __init__(self, router, port, wrong):
         self.router, self.port, self.wrong = router, port, wrong
-        self.page = file_text(PAGE).replace(*PAGE_EDITS.get(wrong, ("", "", 0))).encode() + (b"<!-- -->\n" if wrong == "other-page" else b"")
+        self.page = edited_page(wrong).encode() + (b"<!-- -->\n" if wrong == "other-page" else b"")
         self.places, self.lock = MOST_CONNECTIONS, threading.Lock()
         # The connections that wait for a request, and since when.
         self.waiting = {}
@@ -513,8 +542,8 @@ def main():
     words.add_argument("--readonly", action="store_true")
     words.add_argument("--wrong", choices=WRONGS, default="")
     given, _ = words.parse_known_args()
-    for name, (old, _) in PAGE_EDITS.items():
-        if file_text(PAGE).count(old) != 1:
+    for name, edits in PAGE_EDITS.items():
+        for old in (it for it in edits[::2] if file_text(PAGE).count(it) != 1):
             sys.exit(f"page_mock.py: {name}: this does not occur exactly once in the page: {old}")
     router = Router(given.text, given.readonly, given.wrong)
     page = Page(router, given.page, given.wrong)

@@ -21,11 +21,11 @@ class BrowserFault(Exception):
 class Browser:
     """A Chromium without a window. Its messages are JSON, over two pipes; a zero byte ends each."""
 
-    def __init__(self, program):
+    def __init__(self, program, nice=15):
         self.folder = tempfile.TemporaryDirectory(prefix="page-")
         reads, self.writes = os.pipe()
         self.reads, writes = os.pipe()
-        words = ["nice", "-n", "15", program, "--headless=new", "--remote-debugging-pipe", f"--user-data-dir={self.folder.name}", "--no-sandbox", "--disable-gpu"]
+        words = ["nice", "-n", str(nice), program, "--headless=new", "--remote-debugging-pipe", f"--user-data-dir={self.folder.name}", "--no-sandbox", "--disable-gpu"]
         words += ["--no-first-run", "--disable-background-networking", "--disable-component-update", "--disable-dev-shm-usage", "--hide-scrollbars", "about:blank"]
 
         def at_3_and_4():
@@ -47,6 +47,8 @@ class Browser:
         """Opens a tab of 1360 by 900 pixels and turns on the events of page, scripts and log."""
         target = self.ask("Target.createTarget", url="about:blank")["targetId"]
         self.tab = self.ask("Target.attachToTarget", targetId=target, flatten=True)["sessionId"]
+        # The time of a thread is the time that it ran, so a busy machine adds nothing to it.
+        self.ask("Performance.enable", timeDomain="threadTicks")
         for it in ("Page.enable", "Runtime.enable", "Log.enable"):
             self.ask(it)
         self.ask("Emulation.setDeviceMetricsOverride", width=1360, height=900, deviceScaleFactor=1, mobile=False)
@@ -83,9 +85,10 @@ class Browser:
         return came["result"].get("value")
 
     def press(self, key, text=""):
-        """Presses and releases Enter or Escape."""
+        """Presses and releases Enter, Escape or Tab."""
+        code = {"Tab": 9, "Enter": 13, "Escape": 27}[key]
         for kind in ("keyDown", "keyUp"):
-            self.ask("Input.dispatchKeyEvent", type=kind, key=key, code=key, windowsVirtualKeyCode=13 if key == "Enter" else 27, text=text if kind == "keyDown" else "")
+            self.ask("Input.dispatchKeyEvent", type=kind, key=key, code=key, windowsVirtualKeyCode=code, text=text if kind == "keyDown" else "")
 
     def type(self, place, text):
         """Replaces the text of a field, as typing would."""
@@ -95,6 +98,24 @@ class Browser:
     def click(self, place):
         """Clicks the element of this CSS selector."""
         self.value(f"document.querySelector({place!r}).click()")
+
+    def click_at(self, x, y):
+        """Clicks with the mouse at a place in the window."""
+        for kind in ("mousePressed", "mouseReleased"):
+            self.ask("Input.dispatchMouseEvent", type=kind, x=x, y=y, button="left", clickCount=1)
+
+    def busy_seconds(self):
+        """Returns seconds so far: those that the page's main thread ran, and those that it waited for a
+        processor, and those that all processes of the browser ran.
+        """
+        main = next(it["value"] for it in self.ask("Performance.getMetrics")["metrics"] if it["name"] == "TaskDuration")
+        tab, self.tab = self.tab, None
+        processes = self.ask("SystemInfo.getProcessInfo")["processInfo"]
+        self.tab = tab
+        page = max((it["cpuTime"], it["id"]) for it in processes if it["type"] == "renderer")[1]
+        with open(f"/proc/{page}/schedstat", encoding="ascii") as row:
+            waited = int(row.read().split()[1]) / 1e9
+        return main, waited, sum(it["cpuTime"] for it in processes)
 
     def text(self, place):
         """Returns the text of the element of this CSS selector, or '' if there is none."""
@@ -109,8 +130,9 @@ class Browser:
     def errors(self):
         """Returns the errors in the browser's console, with violations of the content policy."""
         self.value("0")
-        logged = [it["params"]["entry"]["text"] for it in self.events if it["method"] == "Log.entryAdded" and it["params"]["entry"]["level"] == "error"]
-        return logged + [str(it["params"]["exceptionDetails"]) for it in self.events if it["method"] == "Runtime.exceptionThrown"]
+        events = {kind: [it["params"] for it in self.events if it.get("method") == kind] for kind in ("Log.entryAdded", "Runtime.exceptionThrown")}
+        logged = [it["entry"]["text"] for it in events["Log.entryAdded"] if it["entry"]["level"] == "error"]
+        return logged + [str(it["exceptionDetails"]) for it in events["Runtime.exceptionThrown"]]
 
     def close(self):
         """Ends the browser: by its own command, or by SIGKILL if it does not end in time."""
