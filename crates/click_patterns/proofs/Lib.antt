@@ -1,0 +1,5 @@
+pub mod OneTokenList
+pub mod OneTree
+pub mod ChainParts
+pub mod Negations
+pub mod OpenLimits
