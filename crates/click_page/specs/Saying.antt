@@ -117,23 +117,23 @@ SaysOne k Makes [] r = ⊥
 SaysOne k Makes (a ∷ []) r = SaysMade k Makes a r
 SaysOne k Makes (a ∷ b ∷ answers) r = ⊥
 
--- The response to a request for metrics: the metrics, or 503 if the running configuration was not
--- read.
-abbrev pub SaysMetrics : Option Survey → List Answer → List Answer → Response → Type 0
-SaysMetrics (Some s) answers values r = Says 200 kind.Metrics (metrics_text s answers values) r
-SaysMetrics None answers values r = Says 503 kind.Text (codes "the running configuration was not read\n") r
+-- The response to a request for metrics: the metrics and then the figures, which may be a text of
+-- `Gives`, or 503 if the running configuration was not read.
+abbrev pub SaysMetrics : (List ℕ → Type 0) → Option Survey → List Answer → List Answer → Response → Type 0
+SaysMetrics Gives (Some s) answers values r = (more : List ℕ) × Gives more × Says 200 kind.Metrics (metrics_text s answers values ++ more) r
+SaysMetrics Gives None answers values r = Says 503 kind.Text (codes "the running configuration was not read\n") r
 
 -- The response to a request whose commands were answered in this way, and whose survey had these
--- values.
-abbrev pub SaysFor : PageRequest → List Answer → Option Survey → List Answer → Response → Type 0
-SaysFor page_request.Page answers survey values r = Says 200 kind.Html PAGE.now r
-SaysFor page_request.Picture answers survey values r = SaysOne kind.Svg IsPicture answers r
-SaysFor page_request.Flat answers survey values r = SaysOne kind.Json IsFlatText answers r
-SaysFor (page_request.Read handlers) answers survey values r = Says 200 kind.Json (compact_text (list_data (entries_of (map reading handlers) answers))) r
-SaysFor (page_request.Write handler text) [] survey values r = ⊥
-SaysFor (page_request.Write handler text) (a ∷ answers) survey values r = Says 200 kind.Json (compact_text (entry_of (command.Write handler text) a)) r
-SaysFor page_request.Metrics answers survey values r = SaysMetrics survey answers values r
-SaysFor (page_request.Refused why) answers survey values r = IsResponse (status_of why) (fields_for kind.Text ++ allow_of why) (refusal_line why) r
+-- values. The figures may be a text of `Gives`.
+abbrev pub SaysFor : (List ℕ → Type 0) → PageRequest → List Answer → Option Survey → List Answer → Response → Type 0
+SaysFor Gives page_request.Page answers survey values r = Says 200 kind.Html PAGE.now r
+SaysFor Gives page_request.Picture answers survey values r = SaysOne kind.Svg IsPicture answers r
+SaysFor Gives page_request.Flat answers survey values r = SaysOne kind.Json IsFlatText answers r
+SaysFor Gives (page_request.Read handlers) answers survey values r = Says 200 kind.Json (compact_text (list_data (entries_of (map reading handlers) answers))) r
+SaysFor Gives (page_request.Write handler text) [] survey values r = ⊥
+SaysFor Gives (page_request.Write handler text) (a ∷ answers) survey values r = Says 200 kind.Json (compact_text (entry_of (command.Write handler text) a)) r
+SaysFor Gives page_request.Metrics answers survey values r = SaysMetrics Gives survey answers values r
+SaysFor Gives (page_request.Refused why) answers survey values r = IsResponse (status_of why) (fields_for kind.Text ++ allow_of why) (refusal_line why) r
 
 -- out of memory: status 503 without fields or body
 abbrev pub SaysNoMemory : Response → Type 0

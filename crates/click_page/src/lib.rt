@@ -5,6 +5,7 @@
 mod answer_json;
 mod calls;
 mod content_kind;
+mod figures;
 mod flat_json;
 mod headers;
 pub mod laws;
@@ -24,7 +25,9 @@ mod survey;
 mod values;
 
 pub use content_kind::ContentKind;
+pub use figures::{Figures, NoFigures};
 pub use flat_json::flat_text;
+pub use lines::push_escaped;
 pub use page_request::{PageRequest, RequestRefusal};
 pub use page_text::{PAGE, POLICY};
 pub use requests::parse_request;

@@ -13,6 +13,7 @@ ghost use Rattle.click_page.specs.Saying.{Says, SaysFor, SaysMade, SaysMetrics, 
 
 use crate::answer_json::{fault_entry, read_entries, read_entry, write_entry};
 use crate::content_kind::ContentKind;
+use crate::figures::Figures;
 use crate::flat_json::flat_text;
 use crate::headers::{add, bytes_response, text_response};
 use crate::measuring::Measured;
@@ -140,9 +141,11 @@ fn say_flat(alloc: Global, answer: &Answer, response: &mut Response) -> Result<(
     }
 }
 
-/// Responds with the metrics, or with status 503 if the running configuration was not read.
-fn say_metrics(
+/// Responds with the metrics and the figures, or with status 503 if the running configuration was
+/// not read.
+fn say_metrics<F: Figures>(
     alloc: Global,
+    figures: &F,
     answers: &[Answer],
     measured: &Measured,
     response: &mut Response,
@@ -150,11 +153,12 @@ fn say_metrics(
     requires blank { IsBlank response.old }
     requires two { 2 ≤ length answers.now }
     requires all { IfSome measured.now.survey (λ s. length measured.now.values.items ≡ length s.samples) }
-    ensures { OnOk result (SaysMetrics measured.now.survey answers.now measured.now.values.items response.new) }
+    ensures { OnOk result (SaysMetrics (F.gives figures.now) measured.now.survey answers.now measured.now.values.items response.new) }
 {
     match &measured.survey {
         Some(survey) => {
-            let text = metrics_text(alloc, survey, answers, measured.values.as_slice())?;
+            let mut text = metrics_text(alloc, survey, answers, measured.values.as_slice())?;
+            figures.push_to(&mut text)?;
             text_response(ContentKind::Metrics, text, response)
         }
         None => bytes_response(
@@ -168,8 +172,9 @@ fn say_metrics(
 
 /// Responds to a request whose commands were answered in this way, and whose survey had these
 /// values. After an error, part of the response may have been written.
-pub(crate) fn respond(
+pub(crate) fn respond<F: Figures>(
     alloc: Global,
+    figures: &F,
     page_request: &PageRequest,
     answers: &[Answer],
     measured: &Measured,
@@ -178,7 +183,7 @@ pub(crate) fn respond(
     requires blank { IsBlank response.old }
     requires many { length answers.now ≡ length (commands_of page_request.now) }
     requires all { IfSome measured.now.survey (λ s. length measured.now.values.items ≡ length s.samples) }
-    ensures { OnOk result (SaysFor page_request.now answers.now measured.now.survey measured.now.values.items response.new) }
+    ensures { OnOk result (SaysFor (F.gives figures.now) page_request.now answers.now measured.now.survey measured.now.values.items response.new) }
 {
     match page_request {
         PageRequest::Page => bytes_response(
@@ -197,7 +202,7 @@ pub(crate) fn respond(
             let told = write_entry(alloc, handler.as_slice(), &answers[0])?;
             say_value(alloc, &told, response)
         }
-        PageRequest::Metrics => say_metrics(alloc, answers, measured, response),
+        PageRequest::Metrics => say_metrics(alloc, figures, answers, measured, response),
         PageRequest::Refused(why) => say_refusal(*why, response),
     }
 }

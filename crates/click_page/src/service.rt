@@ -7,6 +7,7 @@ ghost use Rattle.click_page.specs.Asking.{commands_of};
 ghost use Rattle.click_page.specs.Saying.{SaysFor, SaysNoMemory};
 
 use crate::calls::{ask_all, calls_of};
+use crate::figures::Figures;
 use crate::measuring::{Measured, measure_for};
 use crate::page_request::PageRequest;
 use crate::requests::parse_request;
@@ -20,35 +21,37 @@ use std::marker::Model;
 
 /// A page that makes its calls through a port.
 ///
-/// Contracts see this port, whether the page may only read, and the TCP port of 127.0.0.1 that it
-/// is at.
+/// Contracts see this port, whether the page may only read, the TCP port of 127.0.0.1 that it is at,
+/// and the figures that its metrics end with.
 #[derive(Drop)]
-pub struct Page<P> {
+pub struct Page<P, F> {
     alloc: Global,
     port: P,
     readonly: bool,
     at: u16,
+    figures: F,
 }
 
-impl<P> Model for Page<P> {
+impl<P, F> Model for Page<P, F> {
     ghost use Rattle.click_page.specs.Answering.{Paged};
 
-    ghost Value = { Paged P };
+    ghost Value = { Paged P F };
 
-    ghost view = { λ p. record { port = p.port; readonly = p.readonly; at = p.at } };
+    ghost view = { λ p. record { port = p.port; readonly = p.readonly; at = p.at; figures = p.figures } };
 }
 
-impl<P> Page<P> {
-    /// Returns a page at this TCP port of 127.0.0.1. If it may only read, it makes no call that
-    /// writes.
-    pub fn new(alloc: Global, port: P, readonly: bool, at: u16) -> Page<P>
-        ensures { result ≡ record { port = port; readonly = readonly; at = at } }
+impl<P, F: Drop> Page<P, F> {
+    /// Returns a page at this TCP port of 127.0.0.1, with these figures. If it may only read, it
+    /// makes no call that writes.
+    pub fn new(alloc: Global, port: P, readonly: bool, at: u16, figures: F) -> Page<P, F>
+        ensures { result ≡ record { port = port; readonly = readonly; at = at; figures = figures } }
     {
         Page {
             alloc,
             port,
             readonly,
             at,
+            figures,
         }
     }
 
@@ -61,15 +64,16 @@ impl<P> Page<P> {
             port,
             readonly: _,
             at: _,
+            figures: _,
         } = self;
         port
     }
 }
 
-impl<P: Port> Service for Page<P> {
+impl<P: Port, F: Figures> Service for Page<P, F> {
     ghost use Rattle.click_page.specs.Answering.{AnswersSo};
 
-    ghost answers = { AnswersSo P.asks };
+    ghost answers = { AnswersSo F.gives P.asks };
 
     /// Allocates the memory for the calls before it makes the first one, and that for the reads of
     /// a survey before it makes the first of these.
@@ -85,6 +89,7 @@ impl<P: Port> Service for Page<P> {
         finish(
             self.alloc,
             &mut self.port,
+            &self.figures,
             &page_request,
             answers.as_slice(),
             response,
@@ -94,26 +99,28 @@ impl<P: Port> Service for Page<P> {
 }
 
 /// Makes the reads that follow the first answers to a request, and responds.
-fn finish<P: Port>(
+fn finish<P: Port, F: Figures>(
     alloc: Global,
     port: &mut P,
+    figures: &F,
     page_request: &PageRequest,
     answers: &[Answer],
     response: &mut Response,
 )
     requires blank { IsBlank response.old }
     requires each { length answers.now ≡ length (commands_of page_request.now) }
-    ensures { (readonly : Bool) → Follows P.asks readonly page_request.now answers.now port.old response.new port.new }
+    ensures { (readonly : Bool) → Follows (F.gives figures.now) P.asks readonly page_request.now answers.now port.old response.new port.new }
 {
     match measure_for(alloc, port, page_request, answers) {
-        Ok(measured) => tell(alloc, page_request, answers, &measured, response),
+        Ok(measured) => tell(alloc, figures, page_request, answers, &measured, response),
         Err(_) => tell_no_memory(response),
     }
 }
 
 /// Responds with the answers, or with status 503 if it runs out of memory.
-fn tell(
+fn tell<F: Figures>(
     alloc: Global,
+    figures: &F,
     page_request: &PageRequest,
     answers: &[Answer],
     measured: &Measured,
@@ -122,9 +129,9 @@ fn tell(
     requires blank { IsBlank response.old }
     requires each { length answers.now ≡ length (commands_of page_request.now) }
     requires all { IfSome measured.now.survey (λ s. length measured.now.values.items ≡ length s.samples) }
-    ensures { SaysFor page_request.now answers.now measured.now.survey measured.now.values.items response.new ⊎ SaysNoMemory response.new }
+    ensures { SaysFor (F.gives figures.now) page_request.now answers.now measured.now.survey measured.now.values.items response.new ⊎ SaysNoMemory response.new }
 {
-    if respond(alloc, page_request, answers, measured, response).is_err() {
+    if respond(alloc, figures, page_request, answers, measured, response).is_err() {
         tell_no_memory(response);
     }
 }

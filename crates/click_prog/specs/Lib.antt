@@ -6,6 +6,7 @@ pub mod Links
 pub mod Numbers
 pub mod Linking
 pub mod Drawn
+pub mod Figures
 pub mod Paging
 pub mod Serving
 pub mod CallsAsked

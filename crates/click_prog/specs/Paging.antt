@@ -18,15 +18,20 @@ use Rattle.click_prog.specs.Running.{Planned, HaveNotRun}
 use Rattle.click_prog.specs.Statuses.{sessions_status}
 use Rattle.click_cli.specs.declared.status.Status.{Status}
 
--- a page at this port of the machine, over the port that answers its calls
-abbrev pub page_at : {P : Type 0} → P → Bool → ℕ → Paged P
-page_at port readonly at = record { port = port; readonly = readonly; at = at }
+-- a page at this port of the machine, over the port that answers its calls; nothing is known of the
+-- figures that its metrics end with
+abbrev pub page_at : {P : Type 0} → P → Bool → ℕ → Paged P (Unit {0})
+page_at port readonly at = record { port = port; readonly = readonly; at = at; figures = tt }
+
+-- figures may be any text
+abbrev pub AnyText : Unit {0} → List ℕ → Type 0
+AnyText figures text = Unit {0}
 
 -- The page answered requests, one after another. It made exactly the calls of their commands, and
--- each response reports exactly the answers to its calls, or out of memory. These calls took what
--- answers them from `old` to `new`.
+-- each response reports exactly the answers to its calls, or out of memory. Metrics end with
+-- figures, which may be any text. These calls took what answers them from `old` to `new`.
 abbrev pub IsPagedOver : {P : Type 0} → (P → Asked → Result Reply AskFault → P → Type 0) → Bool → ℕ → P → P → Type 0
-IsPagedOver asks readonly at old new = (requests : List Call) × Chain (AnswersSo asks) (page_at old readonly at) requests (page_at new readonly at)
+IsPagedOver asks readonly at old new = (requests : List Call) × Chain (AnswersSo AnyText asks) (page_at old readonly at) requests (page_at new readonly at)
 
 -- a page that answered requests over a seat
 abbrev pub IsPaged : Bool → ℕ → SeatState → SeatState → Type 0

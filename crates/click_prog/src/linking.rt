@@ -10,6 +10,7 @@ ghost use Rattle.click_workers.specs.Linked.{AreQuiet, IsTrueOpening};
 
 use crate::counts::{Ending, tell_counts, tell_on};
 use crate::paging::Paging;
+use crate::process_figures::ProcessFigures;
 use crate::serving::{Arrivals, RunSetup, clients_of};
 use crate::sockets::Sockets;
 use crate::status::{MESSAGE_PREFIX, sessions_status};
@@ -37,7 +38,7 @@ pub struct OpenLinks {
 }
 
 /// Serves sessions that come in at a door over a live router, with drivers, links, and a page if
-/// there is one.
+/// there is one. The page's metrics end with these figures and the counts of the links.
 ///
 /// Each session slot serves as many sessions as `arrivals` says, one after another. Writes the
 /// fault of a refused text to standard error, and the counts of links at their interval and at the
@@ -50,25 +51,50 @@ pub fn serve_linked<T: Handlers + Send + Drop, D: Door, R: Threads + Wait + Sync
     arrivals: Arrivals<D, OpenGate>,
     opened_links: OpenLinks,
     page: Option<HttpListener>,
+    figures: ProcessFigures,
 ) -> Status
     requires { 0 < arrivals.turns }
     ensures { LinkedTo D.lets_in D.Reader.input D.Writer.output ⟦<OpenGate as Gate>⟧.gives ⟦<OpenGate as Gate>⟧.told (option_map (λ p. p.port) page) arrivals.entry.door.now setup.entry.plan setup.entry.text.now
         arrivals.entry.turns opened_links.sockets.links.receivers.items opened_links.sockets.sender.tried result }
 {
+    let Ok(devices) = opened_links.sockets.links.devices(host.alloc()) else {
+        return Status::NoMemory;
+    };
+    let devices = devices.as_slice();
     match page {
-        None => serve_with_companion(rt, host, table, setup, arrivals, opened_links, NoCompanion),
+        None => serve_with_companion(
+            rt,
+            host,
+            table,
+            setup,
+            arrivals,
+            opened_links,
+            devices,
+            NoCompanion,
+        ),
         Some(http_listener) => {
             let paging = Paging {
                 http_listener,
                 clock: host,
                 readonly: setup.plan.readonly,
+                figures: figures.with_links(devices),
             };
-            serve_with_companion(rt, host, table, setup, arrivals, opened_links, paging)
+            serve_with_companion(
+                rt,
+                host,
+                table,
+                setup,
+                arrivals,
+                opened_links,
+                devices,
+                paging,
+            )
         }
     }
 }
 
-/// Does what `serve_linked` does, with any work in parallel with the links.
+/// Does what `serve_linked` does, with any work in parallel with the links. The devices are those of
+/// the links, and have their counts.
 fn serve_with_companion<
     T: Handlers + Send + Drop,
     D: Door,
@@ -82,20 +108,18 @@ fn serve_with_companion<
     setup: RunSetup,
     arrivals: Arrivals<D, G>,
     opened_links: OpenLinks,
+    devices: &[Device],
     beside: B,
 ) -> Status
     requires many { setup.plan.sessions + setup.plan.workers + (1 + B.Seats.many) ≤ 256 }
     requires turns { 0 < arrivals.turns }
+    requires names { names_of devices.now ≡ map (λ r. r.device) opened_links.sockets.links.receivers.items }
     requires quiet { (old new : B.Seats) (done : B.Done) → All (λ s. s.calls ≡ []) (B.Seats.sittings old) → B.does beside old new done → All (λ s. AreQuiet s.calls) (B.Seats.sittings new) }
     ensures { LinkedBesideTo B.Seats.sittings B.Seats.many (B.does beside) D.lets_in D.Reader.input D.Writer.output G.gives G.told arrivals.entry.door.now setup.entry.plan.readonly setup.entry.text.now
         setup.entry.plan.sessions setup.entry.plan.workers arrivals.entry.turns opened_links.sockets.links.receivers.items opened_links.sockets.sender.tried result }
 {
     let (every, alloc) = (opened_links.tell, host.alloc());
     let Sockets { links, sender } = opened_links.sockets;
-    let Ok(devices) = links.devices(alloc) else {
-        return Status::NoMemory;
-    };
-    let devices = devices.as_slice();
     let RunSetup { text, plan, .. } = setup;
     let Arrivals { door, gate, turns } = arrivals;
     let ending = Ending::new();

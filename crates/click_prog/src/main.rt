@@ -14,13 +14,17 @@ mod counts;
 mod doors;
 mod drawing;
 mod link;
+mod link_count;
 mod linking;
 mod mode;
 mod number;
 mod paging;
 pub mod pcap;
+mod process_figures;
+mod process_memory;
 mod runs;
 mod serving;
+mod session_counts;
 mod sockets;
 mod status;
 

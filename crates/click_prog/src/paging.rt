@@ -8,7 +8,7 @@ use click_cli::Status;
 use click_control::Port;
 use click_desk::{Desk, Seat};
 use click_http::{Ended, HttpListener, serve_until};
-use click_page::Page;
+use click_page::{Figures, Page};
 use click_router::Handlers;
 use click_streams::{Sink, Source};
 use click_workers::{
@@ -21,16 +21,18 @@ use std::sync::atomic::AtomicBool;
 use std::thread::Threads;
 use std::time::Clock;
 
-/// The page that shows the router in a browser: its listener, its clock, and whether it may only
-/// read.
+/// The page that shows the router in a browser: its listener, its clock, whether it may only read,
+/// and the figures that its metrics end with.
 #[derive(Drop)]
-pub struct Paging<'a, C> {
+pub struct Paging<'a, C, F> {
     pub http_listener: HttpListener,
     pub clock: &'a C,
     pub readonly: bool,
+    pub figures: F,
 }
 
-impl<'a, T: Handlers + Send + Drop, C: Clock + Sync> Companion<T> for Paging<'a, C> {
+impl<'a, T: Handlers + Send + Drop, C: Clock + Sync, F: Figures + Send + Drop> Companion<T>
+    for Paging<'a, C, F> {
     ghost use Rattle.click_prog.specs.Paging.{IsPaged};
 
     type Seats = Seat<T>;
@@ -51,27 +53,38 @@ impl<'a, T: Handlers + Send + Drop, C: Clock + Sync> Companion<T> for Paging<'a,
             http_listener,
             clock,
             readonly,
+            figures,
         } = self;
         let port = SeatPort::new(rt, desk, seats);
-        let (ended, port) = serve_page(rt, clock, alloc, http_listener, port, readonly, stop);
+        let (ended, port) = serve_page(
+            rt,
+            clock,
+            alloc,
+            http_listener,
+            port,
+            readonly,
+            figures,
+            stop,
+        );
         (ended, port.into_seat())
     }
 }
 
 /// Serves a page over a port until `stop` is set.
-fn serve_page<P: Port, C: Clock, R: Wait>(
+fn serve_page<P: Port, C: Clock, F: Figures + Drop, R: Wait>(
     rt: &R,
     clock: &C,
     alloc: Global,
     http_listener: HttpListener,
     port: P,
     readonly: bool,
+    figures: F,
     stop: &AtomicBool,
 ) -> (Ended, P)
     ensures { IsPagedOver P.asks readonly http_listener.port port result.1 }
 {
     let at = http_listener.port();
-    let mut page = Page::new(alloc, port, readonly, at);
+    let mut page = Page::new(alloc, port, readonly, at, figures);
     let ended = serve_until(rt, clock, alloc, http_listener, &mut page, stop);
     (ended, page.into_port())
 }
@@ -90,17 +103,24 @@ fn rounds_of(live: bool, rounds: u64) -> Option<u64>
     if live { None } else { Some(rounds) }
 }
 
-/// Serves sessions that come in at a door, with drivers and a page, over a router of the text.
+/// Serves sessions that come in at a door, with drivers and a page, over a router of the text. The
+/// page's metrics end with these figures.
 ///
 /// Each session slot serves as many sessions as `arrivals` says. Writes the reports of the run to
 /// standard error.
-pub fn serve_paged<T: Handlers + Send + Drop, D: Door, R: Threads + Wait + Sync>(
+pub fn serve_paged<
+    T: Handlers + Send + Drop,
+    D: Door,
+    F: Figures + Send + Drop,
+    R: Threads + Wait + Sync,
+>(
     rt: &R,
     host: &HostRuntime,
     table: T,
     setup: RunSetup,
     arrivals: Arrivals<D, OpenGate>,
     http_listener: HttpListener,
+    figures: F,
 ) -> Status
     requires { 0 < arrivals.turns }
     ensures { PagedRunTo D.lets_in D.Reader.input D.Writer.output ⟦<OpenGate as Gate>⟧.gives ⟦<OpenGate as Gate>⟧.told arrivals.entry.door.now setup.entry.plan setup.entry.text.now arrivals.entry.turns http_listener.port result }
@@ -115,6 +135,7 @@ pub fn serve_paged<T: Handlers + Send + Drop, D: Door, R: Threads + Wait + Sync>
         http_listener,
         clock: host,
         readonly: plan.readonly,
+        figures,
     };
     let (alloc, rounds) = (host.alloc(), rounds_of(plan.live, plan.rounds));
     let clients = clients_of(plan, arrivals);

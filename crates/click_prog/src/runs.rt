@@ -9,7 +9,9 @@ ghost use Rattle.click_prog.specs.Serving.{ServesTo, ServesFrom, is_alone, turns
 use crate::doors::Standard;
 use crate::linking::{OpenLinks, serve_linked};
 use crate::paging::serve_paged;
+use crate::process_figures::ProcessFigures;
 use crate::serving::{Arrivals, Plan, RunSetup, serve_all, serve_live, session};
+use crate::session_counts::SessionCounts;
 use crate::status::MESSAGE_PREFIX;
 use click_cli::{Status, refuse_configuration};
 use click_desk::BoxedTable;
@@ -188,10 +190,29 @@ fn serve_at<T: Handlers + Send + Drop, D: Door, R: Threads + Wait + Sync>(
     ensures { ServesTo D.lets_in D.Reader.input D.Writer.output ⟦<OpenGate as Gate>⟧.gives ⟦<OpenGate as Gate>⟧.told links (option_map (λ p. p.port) page) setup.entry.plan setup.entry.text.now
         arrivals.entry.turns arrivals.entry.door.now result }
 {
+    let sessions = SessionCounts::new();
+    let figures = ProcessFigures::new(host, &sessions, setup.plan.sessions);
     match links {
-        Some(opened_links) => serve_linked(rt, host, table, setup, arrivals, opened_links, page),
+        Some(opened_links) => serve_linked(
+            rt,
+            host,
+            table,
+            setup,
+            arrivals,
+            opened_links,
+            page,
+            figures,
+        ),
         None => match page {
-            Some(http_listener) => serve_paged(rt, host, table, setup, arrivals, http_listener),
+            Some(http_listener) => serve_paged(
+                rt,
+                host,
+                table,
+                setup,
+                arrivals,
+                http_listener,
+                figures,
+            ),
             None if setup.plan.live => serve_live(rt, host, table, setup, arrivals),
             None => serve_all(rt, host, table, setup, arrivals.door),
         },

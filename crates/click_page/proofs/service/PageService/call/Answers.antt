@@ -24,9 +24,10 @@ returns-clause-ok g c =
     let response = c.finish.new.response in
     let mid = c.ask_all-answers.new.port in
     let port = c.finish.new.port in
-    let before : Paged g.row.P.Denot = record { port = page.port; readonly = page.readonly; at = page.at } in
-    let after : Paged g.row.P.Denot = record before { port = port } in
-    subst (λ (old : Paged g.row.P.Denot). AnswersSo asks old request response after) c.self.view_is
-    (page_answers asks before mid port page_request answers request response c.in_ok-page_request.ensures
+    let gives = g.F.Figures.gives in
+    let before : Paged g.row.P.Denot g.row.F.Denot = record { port = page.port; readonly = page.readonly; at = page.at; figures = page.figures } in
+    let after : Paged g.row.P.Denot g.row.F.Denot = record before { port = port } in
+    subst (λ (old : Paged g.row.P.Denot g.row.F.Denot). AnswersSo gives asks old request response after) c.self.view_is
+    (page_answers gives asks before mid port page_request answers request response c.in_ok-page_request.ensures
     (c.ask_all-answers.ensures page.readonly (commands_of page_request) c.in_ok-calls.ensures.calls)
-    (subst (λ (l : List Answer). Follows asks page.readonly page_request l mid response port) c.as_slice.ensures.value (c.finish.ensures page.readonly)))
+    (subst (λ (l : List Answer). Follows (gives page.figures) asks page.readonly page_request l mid response port) c.as_slice.ensures.value (c.finish.ensures page.readonly)))
