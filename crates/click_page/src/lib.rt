@@ -8,6 +8,7 @@ mod content_kind;
 mod figures;
 mod flat_json;
 mod headers;
+mod kept;
 pub mod laws;
 mod lines;
 mod measuring;

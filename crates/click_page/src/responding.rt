@@ -14,8 +14,8 @@ ghost use Rattle.click_page.specs.Saying.{Says, SaysFor, SaysMade, SaysMetrics, 
 use crate::answer_json::{fault_entry, read_entries, read_entry, write_entry};
 use crate::content_kind::ContentKind;
 use crate::figures::Figures;
-use crate::flat_json::flat_text;
 use crate::headers::{add, bytes_response, text_response};
+use crate::kept::Kept;
 use crate::measuring::Measured;
 use crate::metrics::metrics_text;
 use crate::page_request::{PageRequest, RequestRefusal};
@@ -23,7 +23,6 @@ use crate::page_text::PAGE;
 use crate::values::json_text;
 use bytes::Bytes;
 use click_control::Answer;
-use click_draw::picture_of;
 use click_router::{ConfigFault, FaultKind, Reply};
 use http::StatusCode;
 use http_server::Response;
@@ -91,15 +90,15 @@ fn say_fault(alloc: Global, fault: &ConfigFault, response: &mut Response) -> Res
 fn say_made(
     alloc: Global,
     kind: ContentKind,
-    made: Result<Vec<u8>, ConfigFault>,
+    made: Result<Bytes, ConfigFault>,
     response: &mut Response,
 ) -> Result<(), AllocError>
     requires { IsBlank response.old }
-    ensures { OnOk result (MatchResult made (λ made. Says 200 kind made.items response.new)
+    ensures { OnOk result (MatchResult made (λ made. Says 200 kind made response.new)
         (λ fault. (IsMemory fault → ⊥) × Says 200 ContentKind.Json (compact_text (fault_data 520 (fault_text fault))) response.new)) }
 {
     match made {
-        Ok(made) => text_response(kind, made, response),
+        Ok(made) => bytes_response(StatusCode::OK, kind, made, response),
         Err(fault) if fault.kind == FaultKind::NoMemory => Err(AllocError),
         Err(fault) => say_fault(alloc, &fault, response),
     }
@@ -114,13 +113,18 @@ fn say_unread(alloc: Global, answer: &Answer, response: &mut Response) -> Result
 }
 
 /// Responds with the picture of the configuration that was read.
-fn say_picture(alloc: Global, answer: &Answer, response: &mut Response) -> Result<(), AllocError>
+fn say_picture(
+    alloc: Global,
+    kept: &mut Kept,
+    answer: &Answer,
+    response: &mut Response,
+) -> Result<(), AllocError>
     requires { IsBlank response.old }
     ensures { OnOk result (SaysMade ContentKind.Svg IsPicture answer.now response.new) }
 {
     match answer {
         Answer::Replied(Reply::Value(text)) => {
-            let picture = picture_of(alloc, text.as_slice());
+            let picture = kept.picture(alloc, text.as_slice());
             say_made(alloc, ContentKind::Svg, picture, response)
         }
         _ => say_unread(alloc, answer, response),
@@ -128,13 +132,18 @@ fn say_picture(alloc: Global, answer: &Answer, response: &mut Response) -> Resul
 }
 
 /// Responds with the flat form of the configuration that was read.
-fn say_flat(alloc: Global, answer: &Answer, response: &mut Response) -> Result<(), AllocError>
+fn say_flat(
+    alloc: Global,
+    kept: &mut Kept,
+    answer: &Answer,
+    response: &mut Response,
+) -> Result<(), AllocError>
     requires { IsBlank response.old }
     ensures { OnOk result (SaysMade ContentKind.Json IsFlatText answer.now response.new) }
 {
     match answer {
         Answer::Replied(Reply::Value(text)) => {
-            let form = flat_text(alloc, text.as_slice());
+            let form = kept.flat(alloc, text.as_slice());
             say_made(alloc, ContentKind::Json, form, response)
         }
         _ => say_unread(alloc, answer, response),
@@ -174,6 +183,7 @@ fn say_metrics<F: Figures>(
 /// values. After an error, part of the response may have been written.
 pub(crate) fn respond<F: Figures>(
     alloc: Global,
+    kept: &mut Kept,
     figures: &F,
     page_request: &PageRequest,
     answers: &[Answer],
@@ -192,8 +202,8 @@ pub(crate) fn respond<F: Figures>(
             Bytes::from_static(PAGE),
             response,
         ),
-        PageRequest::Picture => say_picture(alloc, &answers[0], response),
-        PageRequest::Flat => say_flat(alloc, &answers[0], response),
+        PageRequest::Picture => say_picture(alloc, kept, &answers[0], response),
+        PageRequest::Flat => say_flat(alloc, kept, &answers[0], response),
         PageRequest::Read { handlers } => {
             let told = read_entries(alloc, handlers.as_slice(), answers)?;
             say_value(alloc, &told, response)

@@ -8,6 +8,7 @@ ghost use Rattle.click_page.specs.Saying.{SaysFor, SaysNoMemory};
 
 use crate::calls::{ask_all, calls_of};
 use crate::figures::Figures;
+use crate::kept::Kept;
 use crate::measuring::{Measured, measure_for};
 use crate::page_request::PageRequest;
 use crate::requests::parse_request;
@@ -22,7 +23,7 @@ use std::marker::Model;
 /// A page that makes its calls through a port.
 ///
 /// Contracts see this port, whether the page may only read, the TCP port of 127.0.0.1 that it is at,
-/// and the figures that its metrics end with.
+/// and the figures that its metrics end with. What it keeps for later requests they do not see.
 #[derive(Drop)]
 pub struct Page<P, F> {
     alloc: Global,
@@ -30,6 +31,7 @@ pub struct Page<P, F> {
     readonly: bool,
     at: u16,
     figures: F,
+    kept: Kept,
 }
 
 impl<P, F> Model for Page<P, F> {
@@ -52,6 +54,7 @@ impl<P, F: Drop> Page<P, F> {
             readonly,
             at,
             figures,
+            kept: Kept::nothing(alloc),
         }
     }
 
@@ -65,6 +68,7 @@ impl<P, F: Drop> Page<P, F> {
             readonly: _,
             at: _,
             figures: _,
+            kept: _,
         } = self;
         port
     }
@@ -89,6 +93,7 @@ impl<P: Port, F: Figures> Service for Page<P, F> {
         finish(
             self.alloc,
             &mut self.port,
+            &mut self.kept,
             &self.figures,
             &page_request,
             answers.as_slice(),
@@ -102,6 +107,7 @@ impl<P: Port, F: Figures> Service for Page<P, F> {
 fn finish<P: Port, F: Figures>(
     alloc: Global,
     port: &mut P,
+    kept: &mut Kept,
     figures: &F,
     page_request: &PageRequest,
     answers: &[Answer],
@@ -112,7 +118,15 @@ fn finish<P: Port, F: Figures>(
     ensures { (readonly : Bool) → Follows (F.gives figures.now) P.asks readonly page_request.now answers.now port.old response.new port.new }
 {
     match measure_for(alloc, port, page_request, answers) {
-        Ok(measured) => tell(alloc, figures, page_request, answers, &measured, response),
+        Ok(measured) => tell(
+            alloc,
+            kept,
+            figures,
+            page_request,
+            answers,
+            &measured,
+            response,
+        ),
         Err(_) => tell_no_memory(response),
     }
 }
@@ -120,6 +134,7 @@ fn finish<P: Port, F: Figures>(
 /// Responds with the answers, or with status 503 if it runs out of memory.
 fn tell<F: Figures>(
     alloc: Global,
+    kept: &mut Kept,
     figures: &F,
     page_request: &PageRequest,
     answers: &[Answer],
@@ -131,7 +146,17 @@ fn tell<F: Figures>(
     requires all { IfSome measured.now.survey (λ s. length measured.now.values.items ≡ length s.samples) }
     ensures { SaysFor (F.gives figures.now) page_request.now answers.now measured.now.survey measured.now.values.items response.new ⊎ SaysNoMemory response.new }
 {
-    if respond(alloc, figures, page_request, answers, measured, response).is_err() {
+    if respond(
+        alloc,
+        kept,
+        figures,
+        page_request,
+        answers,
+        measured,
+        response,
+    )
+    .is_err()
+    {
         tell_no_memory(response);
     }
 }
