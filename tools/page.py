@@ -1,14 +1,16 @@
 #!/usr/bin/env python3
 """Checks the page of a running router, by plain sockets and in a headless Chromium. By sockets:
 foreign hosts, writes without the header, and slow, large and many requests, while a session is
-answered, and its metrics by a parser of their format. Also where the page listens, large answers to
-clients that read slowly or close, connections that wait, and a run that ends with its session. In
-the browser: the picture, live counters, a write that a session sees, and swaps by the page and by a
-session. Also a mesh of 4,000 elements: what is drawn and read of it, the time of a click, and the
-processor time of an idle page. And a Prometheus scrapes the page and answers queries.
+answered, and its metrics by a parser of their format. The metrics have the counts of sessions and
+links, and the memory of the process. The flat form and the picture are those of the running
+configuration, and are made once. Also where the page listens, large answers to clients that read
+slowly or close, connections that wait, and a run that ends with its session. In the browser: the
+picture, live counters, a write that a session sees, and swaps by the page and by a session. Also a
+mesh of 4,000 elements: what is drawn and read of it, the time of a click, and the processor time of
+an idle page. And a Prometheus scrapes the page and answers queries.
 
-    tools/page.py [--part sockets|connections|browser|large|prometheus] [--shots FOLDER] [PROGRAM [WORD..]]
-    tools/page.py --mock [--wrong WHAT] [--part sockets|browser|large|prometheus] [--shots FOLDER]
+    tools/page.py [--part sockets|figures|connections|browser|large|prometheus] [--shots FOLDER] [PROGRAM [WORD..]]
+    tools/page.py --mock [--wrong WHAT] [--part sockets|figures|browser|large|prometheus] [--shots FOLDER]
     tools/page.py --part large --check WHAT ..
     tools/page.py --wrongs [WHAT..]
 
@@ -66,7 +68,7 @@ def text_of(path):
         return it.read()
 
 
-WATCHED, SWAPPED = text_of("tools/page_mock/watched.click"), text_of("tools/page_mock/swapped.click")
+WATCHED, SWAPPED, LINKED = (text_of(f"tools/page_mock/{it}.click") for it in ("watched", "swapped", "linked"))
 # The elements of these configurations in flat order, and their numbers of connections, worked out
 # by hand.
 WATCHED_NAMES = "InfiniteSource@1 c s left/c left/q Unqueue@5 Discard@6 right/c right/q Idle@8 Idle@9 rt Discard@11".split()
@@ -164,7 +166,6 @@ class Session:
     """A control session (docs/CONTROL.md)."""
 
     def __init__(self, router):
-        until(lambda: answers(router.port), "sessions are accepted")
         self.socket = socket.create_connection(("127.0.0.1", router.port), timeout=SECONDS)
         self.file = self.socket.makefile("rwb")
         same(b"Click::ControlSocket/1.3\r\n", self.file.readline(), "the greeting of a session")
@@ -327,13 +328,19 @@ NUMBERS = {
     "Queue": (["length", "highwater_length", "capacity"], ["drops"]),
 }
 
+# The types of the metrics of the router, of its process, and of its links if it has any.
+ROUTER_TYPES = {"click_elements": "gauge", "click_overruns_total": "counter", "click_handler": "gauge", "click_handler_total": "counter"}
+PROCESS_TYPES = {"click_sessions": "gauge", "click_session_slots": "gauge", "click_sessions_total": "counter", "process_resident_memory_bytes": "gauge", "process_virtual_memory_bytes": "gauge"}
+LINK_COUNTS = "received strangers too_long no_room no_memory entered sent failed".split()
+LINK_TYPES = {f"click_link_{it}_total": "counter" for it in LINK_COUNTS}
+
 
 def has_metrics(client):
     flat, answer = client.ask("/flat").json(), client.ask("/metrics")
     same((200, ["text/plain; version=0.0.4; charset=utf-8"]), (answer.status, answer.field("content-type")), "the status and the type of /metrics")
     metrics = Metrics(answer.body.decode())
-    same({"click_elements": "gauge", "click_overruns_total": "counter", "click_handler": "gauge", "click_handler_total": "counter"}, metrics.types, "the types")
-    wanted = {("click_elements", frozenset()), ("click_overruns_total", frozenset())}
+    same(ROUTER_TYPES | PROCESS_TYPES, metrics.types, "the types")
+    wanted = {(it, frozenset()) for it in ("click_elements", "click_overruns_total", *PROCESS_TYPES)}
     for element in flat["elements"]:
         for metric, handlers in zip(("click_handler", "click_handler_total"), NUMBERS.get(element["class"], ([], []))):
             wanted |= {(metric, frozenset({("element", element["name"]), ("class", element["class"]), ("handler", it)})) for it in handlers}
@@ -569,6 +576,127 @@ def try_sockets(tally, router, session):
         tally.check(what, act, client)
 
 
+# ---- By sockets: the figures of the process, and what is made once; each with a router of its own
+
+
+def metrics_of(client):
+    return Metrics(client.ask("/metrics").body.decode())
+
+
+def sessions_of(client):
+    """Returns the number of open sessions, of session slots, and of sessions that have begun."""
+    values = metrics_of(client).values
+    return tuple(int(values[it, frozenset()]) for it in ("click_sessions", "click_session_slots", "click_sessions_total"))
+
+
+def counts_sessions(command):
+    with Router(command, WATCHED, "-n", "3") as router:
+        client = Client(router, None)
+        same((0, 3, 0), sessions_of(client), "the counts of sessions at first")
+        first, second = Session(router), Session(router)
+        until(lambda: sessions_of(client) == (2, 3, 2), "two sessions are counted")
+        first.close()
+        until(lambda: sessions_of(client) == (1, 3, 2), "the end of a session is counted")
+        third = Session(router)
+        until(lambda: sessions_of(client) == (2, 3, 3), "a third session is counted")
+        same(b"200 Goodbye!\r\n", third.ask(b"QUIT\n"), "QUIT")
+        third.close()
+        second.close()
+        until(lambda: sessions_of(client) == (0, 3, 3), "the ends of all sessions are counted")
+
+
+def udp_socket(port=0):
+    it = socket.socket(socket.AF_INET, socket.SOCK_DGRAM)
+    it.bind(("127.0.0.1", port))
+    return it
+
+
+def links_of(client):
+    """Returns the counts of each link by its device, in the order of LINK_COUNTS."""
+    metrics, found = metrics_of(client), {}
+    same(ROUTER_TYPES | PROCESS_TYPES | LINK_TYPES, metrics.types, "the types of the metrics with links")
+    for count in LINK_COUNTS:
+        for (name, labels), value in metrics.values.items():
+            if name == f"click_link_{count}_total":
+                same(["device"], [label for label, _ in labels], f"the labels of {name}")
+                found.setdefault(dict(labels)["device"], []).append(int(value))
+    return found
+
+
+def counts_links(command):
+    """Checks the counts of links after datagrams from the peer, one from elsewhere, and a long one.
+
+    The name of the third device has bytes that are escaped in a label.
+    """
+    odd = 'odd"\\device'
+    here_a, there_a, here_b, there_b, here_c, there_c = free_ports(6)
+    options = [f"--link=a={here_a},{there_a}", f"--link=b={here_b},{there_b}", f"--link={odd}={here_c},{there_c}"]
+    with Router(command, LINKED, *options) as router, udp_socket(there_a) as peer, udp_socket(there_b) as other, udp_socket() as stranger:
+        client = Client(router, None)
+        none = [0] * len(LINK_COUNTS)
+        same({"a": none, "b": none, odd: none}, links_of(client), "the counts of links at first")
+        other.settimeout(SECONDS)
+        for sent in (b"first", b"second", b"third"):
+            peer.sendto(sent, ("127.0.0.1", here_a))
+            same(sent, other.recv(2000), "what a link sends")
+        stranger.sendto(b"x", ("127.0.0.1", here_a))
+        peer.sendto(b"x" * 1601, ("127.0.0.1", here_a))
+        wanted = {"a": [5, 1, 1, 0, 0, 3, 0, 0], "b": [0, 0, 0, 0, 0, 0, 3, 0], odd: none}
+        until(lambda: links_of(client)["a"][0] == 5, "five datagrams are counted")
+        same(wanted, links_of(client), "the counts of links after five datagrams")
+
+
+def measures_memory(command):
+    """Checks the memory in the metrics between a half and twice what Linux says of the process."""
+    with Router(command, WATCHED) as router:
+        values = metrics_of(Client(router, None)).values
+        with open(f"/proc/{router.process.pid}/status", encoding="ascii") as it:
+            status = dict(line.split(":", 1) for line in it)
+        for metric, name in (("process_resident_memory_bytes", "VmRSS"), ("process_virtual_memory_bytes", "VmSize")):
+            wanted, came = int(status[name].split()[0]) * 1024, values[metric, frozenset()]
+            if not wanted / 2 <= came <= wanted * 2:
+                raise Wrong(f"{metric} is {came}, and Linux says {wanted}")
+
+
+def keeps_made(command):
+    """Checks the flat form and the picture before and after swaps, each twice."""
+    with Router(command, WATCHED) as router:
+        client = Client(router, None)
+
+        def made(first="/flat", second="/picture.svg"):
+            return dict(sorted((it, client.ask(it).body) for it in (first, second)))
+
+        def swapped(text, wanted):
+            same(wanted, "done" in client.ask("/swap", "POST", text.encode(), [MARK]).json(), "whether a swap is made")
+
+        before = made()
+        same(WATCHED_NAMES, [it["name"] for it in json.loads(before["/flat"])["elements"]], "names in /flat")
+        same(before, made("/picture.svg", "/flat"), "the second flat form and picture")
+        swapped(SWAPPED, True)
+        after = made()
+        same(SWAPPED_NAMES, [it["name"] for it in json.loads(after["/flat"])["elements"]], "names in /flat after a swap")
+        same((True, False), tuple(b">fresh<" in it["/picture.svg"] for it in (after, before)), "whether a new element is in the picture, after a swap and before")
+        same(after, made("/picture.svg", "/flat"), "the second flat form and picture after a swap")
+        swapped("Idle -> nowhere;", False)
+        same(after, made(), "the flat form and the picture after a swap that is refused")
+        swapped(WATCHED, True)
+        same(before, made("/picture.svg", "/flat"), "the flat form and the picture after a swap back")
+        same(before, made(), "the second ones after a swap back")
+
+
+FIGURES = {
+    "/metrics counts the sessions": counts_sessions,
+    "/metrics counts the datagrams of links": counts_links,
+    "/metrics has the memory of the process": measures_memory,
+    "the flat form and the picture are of the running configuration": keeps_made,
+}
+
+
+def try_figures(tally, command):
+    for what, act in FIGURES.items():
+        tally.check(what, act, command)
+
+
 # ---- By sockets: connections that wait, each with a router of its own
 
 # The seconds until a request that is not finished is answered 408, and the seconds that a client
@@ -771,6 +899,27 @@ def ends_unfinished(command):
                     raise Wrong(f"{what} is answered 408 after {time.monotonic() - began:.1f} s")
 
 
+def mesh_of(count):
+    """Returns a configuration with this many Switches and Counters in a ring with cross-connections."""
+    switches = [f"s{at} :: Switch(0); c{at} :: Counter; s{at} -> c{at};" for at in range(count)]
+    return "\n".join(switches + [f"s{at} [1] -> c{(at * 7 + 3) % count}; c{at} -> s{(at + 1) % count};" for at in range(count)])
+
+
+def makes_once(command):
+    """Checks that the flat form and the picture of a large configuration take long only once."""
+    with Waiting(command) as router:
+        client = Client(router, None)
+        same({"done": True}, client.ask("/swap", "POST", mesh_of(100).encode(), [MARK]).json(), "a swap to a large configuration")
+        for target in ("/flat", "/picture.svg"):
+            seconds = []
+            for _ in range(4):
+                began = time.monotonic()
+                client.ask(target)
+                seconds.append(time.monotonic() - began)
+            if min(seconds[1:]) > seconds[0] / 3:
+                raise Wrong(f"{target} takes {seconds[0]:.3f} s, and then {min(seconds[1:]):.3f} s")
+
+
 def ends_with_session(command):
     """Checks that a run without --live ends with its session, though its page has a connection."""
     with Waiting(command, is_live=False) as router, router.connect() as peer:
@@ -792,6 +941,7 @@ CONNECTIONS = {
     "two requests at once get two answers": answers_two_at_once,
     "a connection without a request stays open": keeps_idle,
     "a request that is not finished gets 408": ends_unfinished,
+    "the flat form and the picture are made once": makes_once,
     "a run without --live ends with its session": ends_with_session,
 }
 
@@ -1067,7 +1217,7 @@ def take_shots(browser, command, folder):
 
 # ---- All of it
 
-PARTS = {"sockets": SOCKETS, "prometheus": PROMETHEUS, "large": large_page.CHECKS}
+PARTS = {"sockets": SOCKETS, "figures": FIGURES, "prometheus": PROMETHEUS, "large": large_page.CHECKS}
 # For each point in which the mock can be wrong, the check that has to fail.
 SEEN_BY = {
     "no-host-check": "a foreign Host is refused",
@@ -1082,6 +1232,18 @@ SEEN_BY = {
     "all-gauges": "/metrics has each number of each element",
     "less-metrics": "/metrics has each number of each element",
     "other-metrics": "/metrics has the values of the handlers",
+    "no-figures": "/metrics has each number of each element",
+    "figures-twice": "/metrics has each number of each element",
+    "zero-sessions": "/metrics counts the sessions",
+    "endless-sessions": "/metrics counts the sessions",
+    "zero-links": "/metrics counts the datagrams of links",
+    "exchanged-links": "/metrics counts the datagrams of links",
+    "raw-labels": "/metrics counts the datagrams of links",
+    "memory-in-pages": "/metrics has the memory of the process",
+    "kept-flat": "the flat form and the picture are of the running configuration",
+    "kept-picture": "the flat form and the picture are of the running configuration",
+    "other-picture": "the flat form and the picture are of the running configuration",
+    "fault-redraws": "the flat form and the picture are of the running configuration",
     "bad-sample": "Prometheus scrapes the page",
     "still-metrics": "Prometheus sees a counter grow",
     "untyped": "Prometheus knows the types of the metrics",
@@ -1159,7 +1321,9 @@ def try_all(command, given):
     with contextlib.ExitStack() as beside:
         if given.part == "connections" or not (given.mock or given.part):
             beside.enter_context(connections_tried(tally, command))
-        if given.part != "connections":
+        if given.part in (None, "figures"):
+            try_figures(tally, command)
+        if given.part not in ("connections", "figures"):
             try_router(tally, command, given)
     return tally
 
@@ -1205,7 +1369,7 @@ def main():
     words.add_argument("--mock", action="store_true")
     words.add_argument("--wrong", choices=page_mock.WRONGS)
     words.add_argument("--wrongs", nargs="*", metavar="WHAT")
-    words.add_argument("--part", choices=["sockets", "connections", "browser", "large", "prometheus"])
+    words.add_argument("--part", choices=["sockets", "figures", "connections", "browser", "large", "prometheus"])
     words.add_argument("--check", choices=large_page.CHECKS, metavar="WHAT")
     words.add_argument("--shots")
     words.add_argument("command", nargs=argparse.REMAINDER)

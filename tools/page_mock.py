@@ -33,6 +33,7 @@ PAGE = f"{TOP}/crates/click_page/page/page.html"
 PICTURES = {
     f"{MOCK}/watched.click": f"{MOCK}/watched.svg",
     f"{MOCK}/swapped.click": f"{MOCK}/swapped.svg",
+    f"{MOCK}/linked.click": f"{MOCK}/linked.svg",
     f"{TOP}/examples/counter.click": f"{MOCK}/counter.svg",
     f"{TOP}/examples/compounds.click": f"{MOCK}/compounds.svg",
     f"{TOP}/examples/calls/ip_router.click": f"{TOP}/docs/ip_router.svg",
@@ -51,6 +52,7 @@ REASONS = {200: "OK", 400: "Bad Request", 403: "Forbidden", 404: "Not Found", 40
 READING = ["GET", "HEAD"]
 ALLOWED = {"/": READING, "/picture.svg": READING, "/flat": READING, "/read": READING, "/metrics": READING, "/write": ["POST"], "/swap": ["POST"]}
 LEVELS, TOTALS = ["length", "highwater_length", "capacity", "switch"], ["count", "byte_count", "drops"]
+LINK_COUNTS = ["received", "strangers", "too_long", "no_room", "no_memory", "entered", "sent", "failed"]
 MOST_HEAD, MOST_BODY, MOST_CONNECTIONS = 65536, 1048576, 32
 # Shorter than those of the router, so that tests are faster.
 SECONDS_FOR_A_HEAD, SECONDS_BETWEEN = 3, 30
@@ -58,7 +60,8 @@ SECONDS_FOR_A_HEAD, SECONDS_BETWEEN = 3, 30
 WRONGS = """no-host-check no-target-check no-mark-check cors no-policy other-policy other-page no-method-check slow-heads takes-garbage long-heads long-bodies
 many-connections stuck-sessions other-element less-connections other-flat still-counter lost-write other-place no-place fault-installs no-redraw unseen-swap
 no-denial any-query empty-handler utf-8-names no-absolute-form capital-hosts no-allow no-head no-types less-metrics other-metrics all-gauges
-bad-sample still-metrics untyped no-room other-room""".split()
+bad-sample still-metrics untyped no-room other-room no-figures figures-twice zero-sessions endless-sessions zero-links exchanged-links raw-labels
+memory-in-pages kept-flat kept-picture other-picture fault-redraws""".split()
 # Edits of the page: texts that occur once, each followed by its replacement.
 DRAWS_ALL = "isWhole = isAll || parts.length <= PARTS.whole", "isWhole = true"
 READS_ALL = "if (watches.reduce((sum, it) => sum + it.handlers.length, 2) <= MOST_HANDLERS) return watches;", "return watches;"
@@ -164,6 +167,8 @@ class Router:
         place = {"other-place": f" at {line}:{column + 1}", "no-place": ""}.get(self.wrong, f" at {line}:{column}")
         if self.wrong == "fault-installs":
             self.text = text
+        if self.wrong == "fault-redraws":
+            self.picture = file_text(PICTURES[f"{MOCK}/swapped.click"]) + " "
         raise Fault(520, "Write handler 'hotconfig' error:", name + place)
 
     def start(self, text, picture, text_of):
@@ -269,8 +274,8 @@ def edited_page(wrong):
 class Page:
     """The HTTP service of the page, over a router."""
 
-    def __init__(self, router, port, wrong):
-        self.router, self.port, self.wrong = router, port, wrong
+    def __init__(self, router, port, wrong, figures):
+        self.router, self.port, self.wrong, self.figures = router, port, wrong, figures
         self.page = edited_page(wrong).encode() + (b"<!-- -->\n" if wrong == "other-page" else b"")
         self.places, self.lock = MOST_CONNECTIONS, threading.Lock()
         # The connections that wait for a request, and since when.
@@ -335,6 +340,8 @@ class Page:
             return self.respond(200, "image/svg+xml", self.picture().encode())
         if path == "/flat":
             flat = router.flat if self.wrong != "other-flat" else {**router.flat, "elements": router.flat["elements"][::-1]}
+            if self.wrong == "kept-flat":
+                self.flat = flat = getattr(self, "flat", flat)
             return self.respond(200, "application/json", as_json(flat))
         if path == "/metrics":
             return self.respond(200, "text/plain; version=0.0.4; charset=utf-8", self.metrics().encode())
@@ -361,7 +368,7 @@ class Page:
             kind = {"all-gauges": "gauge", "untyped": "untyped"}.get(self.wrong, kind)
             text += "" if self.wrong == "no-types" else f"# TYPE {metric} {kind}\n"
             text += "".join(f"{metric}{labels} {value}\n" for labels, value in samples)
-        return text
+        return text + self.figures.text() * {"no-figures": 0, "figures-twice": 2}.get(self.wrong, 1)
 
     def numbers(self):
         """Yields the read handlers of elements whose values are numbers, with labels and values."""
@@ -376,8 +383,11 @@ class Page:
     def picture(self):
         """Returns the picture of the running configuration, or a wrong one."""
         picture = self.router.picture
-        if self.wrong == "no-redraw":
+        if self.wrong in ("no-redraw", "kept-picture"):
             self.old = picture = getattr(self, "old", picture)
+        if self.wrong == "other-picture":
+            self.drawn = getattr(self, "drawn", 0) + 1
+            picture += f"<!-- {self.drawn} -->"
         if self.wrong == "less-connections":
             picture = re.sub(r"<polyline [^>]*/>\n", "", picture, count=1)
         return picture.replace(">rt<", ">rx<") if self.wrong == "other-element" else picture
@@ -493,13 +503,88 @@ class Page:
         return method, target, fields, int(dict(fields).get("content-length", 0))
 
 
+class Links:
+    """Links that receive datagrams, and the counts of each.
+
+    Packets of device a leave at device b, as the configuration linked.click says.
+    """
+
+    def __init__(self, options):
+        self.counts, self.sockets, self.peers = {}, {}, {}
+        for option in options:
+            device, _, ports = option.rpartition("=")
+            here, there = map(int, ports.split(","))
+            self.counts[device] = dict.fromkeys(LINK_COUNTS, 0)
+            self.sockets[device] = socket.socket(socket.AF_INET, socket.SOCK_DGRAM)
+            self.sockets[device].bind(("127.0.0.1", here))
+            self.peers[device] = "127.0.0.1", there
+            threading.Thread(target=self.receive, args=(device,), daemon=True).start()
+
+    def receive(self, device):
+        while True:
+            packet, sender = self.sockets[device].recvfrom(65536)
+            counts = self.counts[device]
+            counts["received"] += 1
+            if sender != self.peers[device]:
+                counts["strangers"] += 1
+            elif len(packet) > 1600:
+                counts["too_long"] += 1
+            elif device == "a":
+                counts["entered"] += 1
+                self.sockets["b"].sendto(packet, self.peers["b"])
+                self.counts["b"]["sent"] += 1
+
+
+class Figures:
+    """The counts of sessions and links, and the memory of the process, or wrong ones."""
+
+    def __init__(self, slots, links, wrong):
+        self.slots, self.links, self.wrong = slots, links, wrong
+        self.open, self.begun, self.lock = 0, 0, threading.Lock()
+
+    def text(self):
+        is_zero = self.wrong == "zero-sessions"
+        groups = {"click_sessions": ("gauge", [("", 0 if is_zero else self.open)]), "click_session_slots": ("gauge", [("", self.slots)])}
+        groups["click_sessions_total"] = "counter", [("", self.begun)]
+        for count in LINK_COUNTS if self.links.counts else ():
+            groups[f"click_link_{count}_total"] = "counter", [(self.label(device), self.count(device, count)) for device in self.links.counts]
+        with open("/proc/self/statm", encoding="ascii") as it:
+            mapped, resident, *_ = (int(number) * (1 if self.wrong == "memory-in-pages" else 4096) for number in it.read().split())
+        groups |= {"process_resident_memory_bytes": ("gauge", [("", resident)]), "process_virtual_memory_bytes": ("gauge", [("", mapped)])}
+        return "".join(f"# TYPE {metric} {kind}\n" + "".join(f"{metric}{label} {value}\n" for label, value in samples) for metric, (kind, samples) in groups.items())
+
+    def label(self, device):
+        escaped = device if self.wrong == "raw-labels" else device.replace("\\", "\\\\").replace('"', '\\"')
+        return f'{{device="{escaped}"}}'
+
+    def count(self, device, count):
+        if self.wrong == "exchanged-links":
+            count = {"strangers": "too_long", "too_long": "strangers", "sent": "failed", "failed": "sent"}.get(count, count)
+        return 0 if self.wrong == "zero-links" and count == "entered" else self.links.counts[device][count]
+
+    def begins(self):
+        with self.lock:
+            self.open, self.begun = self.open + 1, self.begun + 1
+
+    def ends(self):
+        with self.lock:
+            self.open -= self.wrong != "endless-sessions"
+
+
 class Sessions:
     """Control sessions with the commands that tools/page.py uses."""
 
-    def __init__(self, router, page):
-        self.router, self.page = router, page
+    def __init__(self, router, page, figures):
+        self.router, self.page, self.figures = router, page, figures
 
     def serve(self, peer):
+        self.figures.begins()
+        try:
+            self.converse(peer)
+        finally:
+            self.figures.ends()
+
+    def converse(self, peer):
         with peer, peer.makefile("rwb") as it:
             it.write(b"Click::ControlSocket/1.3\r\n")
             it.flush()
@@ -512,8 +597,12 @@ class Sessions:
                     text = it.read(int(text)).decode()
                 it.write(self.reply(word, handler, text))
                 it.flush()
+                if word == "QUIT":
+                    return
 
     def reply(self, word, handler, text):
+        if word == "QUIT":
+            return b"200 Goodbye!\r\n"
         answer = self.router.call(self.router.read, handler) if word == "READ" else self.router.call(self.router.write, handler, text)
         if isinstance(answer, Fault):
             return answer.text.encode()
@@ -539,6 +628,8 @@ def main():
     words.add_argument("-e", dest="text", required=True)
     words.add_argument("--page", type=int, required=True)
     words.add_argument("-p", dest="port", type=int)
+    words.add_argument("-n", dest="slots", type=int, default=1)
+    words.add_argument("--link", dest="links", action="append", default=[])
     words.add_argument("--readonly", action="store_true")
     words.add_argument("--wrong", choices=WRONGS, default="")
     given, _ = words.parse_known_args()
@@ -546,10 +637,12 @@ def main():
         for old in (it for it in edits[::2] if file_text(PAGE).count(it) != 1):
             sys.exit(f"page_mock.py: {name}: this does not occur exactly once in the page: {old}")
     router = Router(given.text, given.readonly, given.wrong)
-    page = Page(router, given.page, given.wrong)
-    listen(given.page, page.serve)
+    figures = Figures(given.slots, Links(given.links), given.wrong)
+    page = Page(router, given.page, given.wrong, figures)
+    # A client that reaches the page reaches the sessions too.
     if given.port:
-        listen(given.port, Sessions(router, page).serve)
+        listen(given.port, Sessions(router, page, figures).serve)
+    listen(given.page, page.serve)
     threading.Event().wait()
 
 

@@ -1,0 +1,1 @@
+FromDevice(a) -> Queue(64) -> ToDevice(b);
