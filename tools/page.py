@@ -854,6 +854,20 @@ def answers_two_at_once(command):
         same([b'[{"value":"1"}]', b'[{"value":"0"}]'], bodies, "the answers to two requests in one segment")
 
 
+def ends_with_client(command):
+    """Checks that a client which ends its output after its request gets its answer, and the end.
+
+    Request and end come together, so that one read returns the request, and only a further one
+    finds the end.
+    """
+    with Waiting(command) as router:
+        for _ in range(20):
+            with router.connect() as peer:
+                peer.sendall(router.head("/read?handler=version"))
+                peer.shutdown(socket.SHUT_WR)
+                same([{"value": "1"}], Answer(received(peer)).json(), "the answer to a client that has ended its output")
+
+
 def keeps_idle(command):
     """Checks that a connection stays open without a request for longer than a request may take.
 
@@ -939,6 +953,7 @@ CONNECTIONS = {
     "the last answer is complete before its connection closes": closes_after_all,
     "the last answer is complete if its client still sends": closes_after_late_input,
     "two requests at once get two answers": answers_two_at_once,
+    "a client that ends its output gets its answer and the end": ends_with_client,
     "a connection without a request stays open": keeps_idle,
     "a request that is not finished gets 408": ends_unfinished,
     "the flat form and the picture are made once": makes_once,

@@ -3,8 +3,9 @@
 each comes out exactly once and in order, or is counted as dropped. Other cases have datagrams of
 all lengths and from other senders, links at 127.0.0.2, an endless source and a missing peer. There
 are also isolated packets, which are carried at once, a swap that removes a device, a flood, and an
-idle router. Runs end with full feeds and with packets that come last, and go on without memory for
-packets. The counts are printed every second, even if no process reads them.
+idle router. Runs end with full feeds, with packets that come last and while packets come without a
+pause, and go on without memory for packets. The counts are printed every second, even if no process
+reads them.
 
     tools/udp_links.py [CASE..]
 
@@ -400,23 +401,26 @@ def isolated():
     """Checks that an isolated packet wakes the forwarder thread, and so takes less than 9 ms.
 
     That is the median of 60 packets. The forwarder thread alone, which sleeps up to 20 ms, would
-    take longer.
+    take longer. In one order of the links, a sweep comes to the device that a packet leaves by
+    before it comes to the one that it enters by. So it takes two sweeps.
     """
-    a, b, medians = Link("a"), Link("b"), []
+    for names in ("ab", "ba"):
+        links = {it: Link(it) for it in names}
+        with Router(PLAIN, list(links.values())):
+            medians = []
+            while not medians or medians[-1] >= MAX_MEDIAN:
+                if len(medians) == TRIES:
+                    found = ", ".join(f"{1000 * it:.1f}" for it in medians)
+                    raise Wrong(f"isolated packets take {found} ms by the median of {ISOLATED}, and not less than {1000 * MAX_MEDIAN:.0f} ms, with the links {', '.join(names)}")
+                medians.append(statistics.median(seconds_of(links["a"], links["b"], number) for number in range(ISOLATED)))
 
-    def seconds(number):
-        time.sleep(INTERVAL)
-        began = time.monotonic()
-        is_carried(a, b, [number])
-        return time.monotonic() - began
 
-    with Router(PLAIN, [a, b]):
-        for _ in range(TRIES):
-            medians.append(statistics.median(map(seconds, range(ISOLATED))))
-            if medians[-1] < MAX_MEDIAN:
-                return
-    found = ", ".join(f"{1000 * it:.1f}" for it in medians)
-    raise Wrong(f"isolated packets take {found} ms by the median of {ISOLATED}, and not less than {1000 * MAX_MEDIAN:.0f} ms")
+def seconds_of(source, sink, number):
+    """Returns the seconds that a packet takes after a pause."""
+    time.sleep(INTERVAL)
+    began = time.monotonic()
+    is_carried(source, sink, [number])
+    return time.monotonic() - began
 
 
 def sizes():
@@ -604,6 +608,7 @@ def flood():
         except TimeoutError:
             b.socket.settimeout(SECONDS)
         is_carried(a, b, range(100))
+        router.is_idle("after a flood")
         counts, out = router.ends()
     adds_up(counts)
     same(with_all + 100, counts.received + lost, f"what was sent, by {counts} and {lost} that the kernel dropped")
@@ -669,6 +674,27 @@ def unread():
 def numbered(number):
     """Returns a long packet with this number."""
     return struct.pack(">Q", number).ljust(LONGEST, b"n")
+
+
+def busy():
+    """Checks that a run ends with its session though packets come without a pause, and all enter."""
+    a, is_over = Link("a"), threading.Event()
+
+    def gives():
+        while not is_over.is_set():
+            a.give(b"a packet")
+            time.sleep(0.001)
+
+    with Router("FromDevice(a) -> c :: Counter -> Discard;", [a]) as router:
+        giving = threading.Thread(target=gives)
+        giving.start()
+        try:
+            until(lambda: int(router.session.read(b"c.count")) >= 100, "packets do not enter")
+            (counts,) = router.ends_now(b"QUIT\n")
+        finally:
+            is_over.set()
+            giving.join()
+    same(entering(counts.received), counts, "the counts of a run that ended while packets came")
 
 
 def ending():
@@ -878,7 +904,7 @@ def blocked_inside():
         raise Wrong(f"next to a link with a full send buffer, 20 packets took {seconds:.1f} s")
 
 
-CASES = {case.__name__: case for case in (refused, isolated, sizes, addresses, endless, nobody, away, telling, unread, memory, late, ending, blocked, flood, carrying)}
+CASES = {case.__name__: case for case in (refused, isolated, sizes, addresses, endless, nobody, away, telling, unread, memory, late, busy, ending, blocked, flood, carrying)}
 # What the case `blocked` runs in its namespace.
 NAMED = {case.__name__: case for case in (blocked_inside,)}
 
