@@ -3,8 +3,8 @@ use Rattle.std.specs.Prelude.{◌≡◌, ◌≢◌, ◌⊎◌, ◌||◌, Bool, t
 use Rattle.std.specs.declared.time.Instant.{Instant}
 use Rattle.mio.specs.declared.event.event.Event.{Event}
 use Rattle.mio.specs.Event.{event_token, is_readable, is_writable, is_error, is_read_closed, is_write_closed}
-use Rattle.http_server.specs.Connection.{history}
-use Rattle.http_server.specs.History.{WantsRead}
+use Rattle.http_server.specs.Connection.{config_of, history}
+use Rattle.http_server.specs.History.{WantsRead, Rests}
 use Rattle.click_http.specs.declared.settings.TheConstants.{MAX_CONNECTIONS}
 use Rattle.click_http.specs.Leading.{page_config}
 use Rattle.click_http.specs.Phases.{begins, IsInTime, HasOutput, HasNoOutput, HasAnswer}
@@ -40,6 +40,13 @@ pub record IsTimed (old new : Peer) (now : Instant) : Type 0 where
   pub answer : HasAnswer new.connection → (new.timer ≡ begins Sending now) ⊎ ((new.timer ≡ old.timer) × (new.connection ≡ old.connection))
   pub sent : HasNoOutput new.connection → old.timer.phase ≡ Sending → new.timer ≡ begins Idle now
 
+-- A read or write was made, and more may be possible without waiting. Only a call that would block
+-- makes the socket not ready. Each request that was read is answered, unless output is pending.
+pub record IsGoingOn (old new : Peer) : Type 0 where
+  pub readable : new.readable ≡ old.readable
+  pub writable : new.writable ≡ old.writable
+  pub rests : (history new.connection ≡ history old.connection) ⊎ Rests (config_of new.connection) (history new.connection)
+
 -- The output was ended: the rest of the input is awaited from now.
 pub record IsHalfClosed (old new : Peer) (now : Instant) : Type 0 where
   pub timer : new.timer ≡ begins HalfClosed now
@@ -54,11 +61,12 @@ pub record IsVerdict (p : Peer) (verdict : Verdict) (now : Instant) : Type 0 whe
 
 -- The time limit was checked. In time, nothing happens. After the limit the connection is closed,
 -- but if an incomplete request is all that it has, it is refused and its output ended, if possible.
+-- If its output was ended, it is not closed now.
 pub record IsLimited (old new : Peer) (lasts : Bool) (now : Instant) : Type 0 where
   pub in_time : IsInTime old.timer now → (lasts ≡ true) × (new ≡ old)
   pub closed : ¬ (IsInTime old.timer now) → (old.timer.phase ≢ Begun) ⊎ HasOutput old.connection → (lasts ≡ false) × (new ≡ old)
   pub refused : ¬ (IsInTime old.timer now) → old.timer.phase ≡ Begun → HasNoOutput old.connection
-      → (lasts ≡ false) ⊎ ((lasts ≡ true) × IsHalfClosed old new now)
+      → ((lasts ≡ false) × (new ≡ old)) ⊎ ((lasts ≡ true) × IsHalfClosed old new now)
 
 -- The system reported an error, or that a direction of the socket is closed.
 abbrev pub is_broken : Event → Bool

@@ -1,5 +1,5 @@
 -- Which connection is closed if all slots are taken and a further one comes.
-use Rattle.std.specs.Prelude.{◌≡◌, ◌⊎◌, ℕ, ◌-◌, ◌≤◌, ◌<◌, Bool, true, false, not, ◌&&◌, List, Option, None, Some, length, slice_index_or, slice_set, if◌then◌else◌}
+use Rattle.std.specs.Prelude.{◌≡◌, ◌≢◌, ◌⊎◌, ℕ, ◌-◌, ◌≤◌, ◌<◌, Bool, true, false, not, ◌&&◌, List, Option, None, Some, length, slice_index_or, slice_set, if◌then◌else◌}
 use Rattle.std.specs.Time.{instant_nanos}
 use Rattle.std.specs.declared.time.Instant.{Instant}
 use Rattle.click_http.specs.declared.phase.Phase.{Phase}
@@ -40,12 +40,22 @@ pub record IsLongest (places : List (Option Peer)) (now : Instant) (at : ℕ) : 
 abbrev pub NoneWaits : List (Option Peer) → Instant → Type 0
 NoneWaits places now = (k : ℕ) → k < length places → waited_at places now k ≡ 0
 
+-- the slot has no connection
+pub record IsFree (places : List (Option Peer)) (at : ℕ) : Type 0 where
+  pub within : at < length places
+  pub empty : slice_index_or places at None ≡ None
+
+-- no slot is free
+abbrev pub NoneIsFree : List (Option Peer) → Type 0
+NoneIsFree places = (k : ℕ) → k < length places → slice_index_or places k None ≢ None
+
 -- The connection in the slot, which had waited longest, was closed.
 pub record IsClosed (old new : List (Option Peer)) (now : Instant) (at : ℕ) : Type 0 where
   pub longest : IsLongest old now at
   pub closed : new ≡ slice_set old at None
 
--- A slot is free: nothing was closed, or the connection in it, which had waited longest.
+-- The slot is free now. It was free before, or none was, and the connection in it, which had waited
+-- longest, was closed.
 pub record IsFreed (old new : List (Option Peer)) (now : Instant) (at : ℕ) : Type 0 where
-  pub within : at < length new
-  pub closed : (new ≡ old) ⊎ (IsLongest old now at × (new ≡ slice_set old at None))
+  pub free : IsFree new at
+  pub closed : ((new ≡ old) × IsFree old at) ⊎ (NoneIsFree old × IsLongest old now at × (new ≡ slice_set old at None))

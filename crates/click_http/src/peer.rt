@@ -76,7 +76,7 @@ pub(crate) struct Peer {
 }
 
 impl Peer {
-    ghost use Rattle.click_http.specs.Readiness.{IsReadiness, IsNew, IsTimed, IsHalfClosed, IsVerdict, IsLimited, woken};
+    ghost use Rattle.click_http.specs.Readiness.{IsReadiness, IsNew, IsTimed, IsGoingOn, IsHalfClosed, IsVerdict, IsLimited, woken};
     ghost use Rattle.click_http.specs.Waiting.{waited};
 
     pub(crate) fn new(alloc: Global, keys: RandomState, stream: TcpStream, now: Instant) -> Peer
@@ -134,6 +134,8 @@ impl Peer {
         ensures wait { result ≡ Step.Wait → IsReadiness self.new false }
         ensures over { result ≡ Step.Over → IsReadiness self.new true }
         ensures timed { result ≡ Step.More → IsTimed self.old self.new now }
+        ensures more { result ≡ Step.More → IsGoingOn self.old self.new }
+        ensures other { self.new.readable ≡ self.old.readable }
     {
         match self.connection.write_to(&mut self.stream) {
             Ok(0) => Step::Over,
@@ -155,10 +157,13 @@ impl Peer {
         requires phase { self.old.timer.phase ≢ Phase.HalfClosed }
         requires output { HasNoOutput self.old.connection }
         requires input { WantsRead page_config (history self.old.connection) }
+        requires ready { IsTrue self.old.readable }
         ensures leads { Leads S.answers service.old service.new }
         ensures wait { result ≡ Step.Wait → IsReadiness self.new false }
         ensures over { result ≡ Step.Over → IsReadiness self.new true }
         ensures timed { result ≡ Step.More → IsTimed self.old self.new now }
+        ensures more { result ≡ Step.More → IsGoingOn self.old self.new }
+        ensures other { self.new.writable ≡ self.old.writable }
     {
         match self.connection.read_from(&mut self.stream) {
             Ok(count) => {
@@ -185,6 +190,7 @@ impl Peer {
         requires phase { self.old.timer.phase ≢ Phase.HalfClosed }
         requires output { HasNoOutput self.old.connection }
         ensures wait { result ≢ Step.Wait }
+        ensures ended { IsTrue self.old.ended → result ≡ Step.Over }
         ensures over { result ≡ Step.Over → self.new ≡ self.old }
         ensures more { result ≡ Step.More → IsHalfClosed self.old self.new now }
     {
@@ -202,6 +208,7 @@ impl Peer {
         requires ready { IsTrue self.old.readable }
         ensures wait { result ≡ Step.Wait → IsReadiness self.new false }
         ensures over { result ≡ Step.Over → IsReadiness self.new true }
+        ensures more { result ≡ Step.More → self.new ≡ self.old }
         ensures timer { self.new.timer ≡ self.old.timer }
     {
         let mut scratch = [0u8; SCRATCH_BYTES];
@@ -268,7 +275,8 @@ impl Peer {
     fn refuse_request(&mut self, now: Instant) -> bool
         requires phase { self.old.timer.phase ≡ Phase.Begun }
         requires output { HasNoOutput self.old.connection }
-        ensures { IsTrue result → IsHalfClosed self.old self.new now }
+        ensures ended { IsTrue result → IsHalfClosed self.old self.new now }
+        ensures failed { IsFalse result → self.new ≡ self.old }
     {
         let told = self.stream.write(OVERDUE);
         told.is_ok() && self.shut_output(now) != Step::Over

@@ -1,11 +1,11 @@
 //! The sockets of a listener and of its connections.
 
-ghost use Rattle.std.specs.Prelude.{◌≡◌, ◌<◌, ◌≤◌, ◌↔◌, length, fold, IfSome, MatchOption, OnOk, OnErr, IsTrue, Any};
+ghost use Rattle.std.specs.Prelude.{◌≡◌, ◌≤◌, ◌↔◌, length, vec_len, fold, MatchOption, OnOk, OnErr, IsTrue, Any};
 ghost use Rattle.std.specs.Duration.{as_nanos};
 ghost use Rattle.mio.specs.Events.{items};
 ghost use Rattle.click_http.specs.Accepting.{IsAsked, tick_nanos};
 ghost use Rattle.click_http.specs.Readiness.{IsPlaceReady, HasWork, woken_place, noted_state, noted_places};
-ghost use Rattle.click_http.specs.Waiting.{IsClosed, IsFreed, IsLongest, NoneWaits, waited_in};
+ghost use Rattle.click_http.specs.Waiting.{IsClosed, IsFree, IsFreed, IsLongest, NoneIsFree, NoneWaits, waited_in};
 
 use crate::accept_state::AcceptState;
 use crate::peer::{Peer, refuse};
@@ -42,11 +42,16 @@ pub(crate) struct Sockets {
     pub(crate) places: Vec<Option<Peer>>,
 }
 
-/// Returns the index of the first free slot.
+/// Returns the index of the first free slot, or `None` if none is free.
 fn free_place(places: &[Option<Peer>]) -> Option<usize>
-    ensures { IfSome result (λ place. place < length places.now) }
+    ensures { MatchOption result (NoneIsFree places.now) (λ place. IsFree places.now place) }
 {
-    places.iter().position(|place| place.is_none())
+    for place in 0..places.len() {
+        if places[place].is_none() {
+            return Some(place);
+        }
+    }
+    None
 }
 
 /// Returns how long the connection in a slot has only waited for a request, in nanoseconds.
@@ -94,7 +99,7 @@ fn close_longest(places: &mut [Option<Peer>], now: Instant) -> Option<usize>
 /// Returns the index of a free slot. If there is none, closes the connection that has waited
 /// longest for a request, if any waits.
 fn freed_place(places: &mut [Option<Peer>], now: Instant) -> Option<usize>
-    ensures freed { MatchOption result ((places.new ≡ places.old) × NoneWaits places.old now) (IsFreed places.old places.new now) }
+    ensures freed { MatchOption result ((places.new ≡ places.old) × NoneWaits places.old now × NoneIsFree places.old) (IsFreed places.old places.new now) }
     ensures count { length places.new ≡ length places.old }
 {
     match free_place(places) {
@@ -202,7 +207,8 @@ impl Sockets {
     /// Blocks until the system reports a socket or one tick is over, and records what it reports.
     pub(crate) fn wait(&mut self) -> io::Result<()>
         ensures reported { OnOk result (self.new.accept_state ≡ fold noted_state self.old.accept_state (items self.new.events)) }
-        ensures failed { OnErr result (self.new.accept_state ≡ self.old.accept_state) }
+        ensures woken { OnOk result (vec_len self.old.places ≤ MAX_CONNECTIONS → self.new.places.items ≡ fold noted_places self.old.places.items (items self.new.events)) }
+        ensures failed { OnErr result ((self.new.accept_state ≡ self.old.accept_state) × (self.new.places ≡ self.old.places)) }
     {
         let pause = pause(self.accept_state, &self.places);
         self.poll.poll(&mut self.events, Some(pause))?;
