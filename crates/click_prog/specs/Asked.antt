@@ -1,5 +1,5 @@
 -- The options of a command line.
-use Rattle.std.specs.Prelude.{◌≡◌, ℕ, ◌≤◌, ◌⊎◌, List, [], length, Bool, true, false, Option, Some, None, codes, option_map}
+use Rattle.std.specs.Prelude.{◌≡◌, ℕ, ◌≤◌, ◌⊎◌, List, [], length, Bool, true, false, Option, Some, None, codes, option_map, is_some}
 use Rattle.std.specs.Option.{option_map_or}
 use Rattle.clap.specs.Matches.{first_value, found_of, matched_of, one_text, raw_values}
 use Rattle.clap.specs.declared.parser.matches.Found.{Found}
@@ -54,6 +54,7 @@ pub record Finds (found : Found) (options : Options) : Type 0 where
   pub links : AreLinks (values_of found (codes "device")) options.links.items
   pub idle : IsGivenOr 0 86400 (usual_idle options.live) (first_value found (codes "quiet")) options.idle
   pub tell : IsGivenOr 0 86400 0 (first_value found (codes "every")) options.tell
+  pub log : IsFlag (one_text found (codes "log")) options.log
   pub draw : IsFlag (one_text found (codes "image")) options.draw
 
 -- no option with a number was given that only a run has
@@ -65,7 +66,7 @@ HasNoNumber found = (first_value found (codes "port") ≡ None) × (first_value 
 -- no other option was given that only a run has
 abbrev pub HasNoWord : Options → Type 0
 HasNoWord options =
-    (options.readonly ≡ false) × (options.check ≡ None) × (options.book ≡ false) × (options.live ≡ false) × (options.links.items ≡ [])
+    (options.readonly ≡ false) × (options.check ≡ None) × (options.book ≡ false) × (options.live ≡ false) × (options.links.items ≡ []) × (options.log ≡ false)
 
 -- if a picture is asked for, no option was given that only a run has
 abbrev pub DrawsAlone : Found → Options → Type 0
@@ -79,9 +80,13 @@ GoesOn found options = options.live ≡ true → (first_value found (codes "numb
 abbrev pub Ends : Found → Options → Type 0
 Ends found options = options.live ≡ false → (options.links.items ≡ []) × (first_value found (codes "every") ≡ None)
 
+-- if sessions are logged, a port for sessions over TCP was given
+abbrev pub LogsOver : Options → Type 0
+LogsOver options = options.log ≡ true → is_some options.port ≡ true
+
 -- the options are those that clap found, and can be used together
 abbrev pub AsksFor : Found → Options → Type 0
-AsksFor found options = Finds found options × DrawsAlone found options × GoesOn found options × Ends found options
+AsksFor found options = Finds found options × DrawsAlone found options × GoesOn found options × Ends found options × LogsOver options
 
 -- The reason why the options that clap found are refused: a value is not valid, or the options
 -- cannot be used together. Nothing is said of an error of clap.
@@ -93,6 +98,7 @@ IsRefusedFor found (why.NoNumber n) =
 IsRefusedFor found (why.NotDrawn option) = (options : Options) × Finds found options × (DrawsAlone found options → ⊥)
 IsRefusedFor found (why.NotLive option) = (options : Options) × Finds found options × (GoesOn found options → ⊥)
 IsRefusedFor found (why.OnlyLive option) = (options : Options) × Finds found options × (Ends found options → ⊥)
+IsRefusedFor found (why.OnlyOver option) = (options : Options) × Finds found options × (LogsOver options → ⊥)
 IsRefusedFor found (why.Link fault) = IsLinkFault (values_of found (codes "device")) fault
 
 -- a refusal, unless it is an error of clap, is about what some parse found

@@ -5,7 +5,7 @@ ghost use Rattle.clap.specs.Built.{IsParsedFrom};
 ghost use Rattle.clap.specs.Matches.{first_value, found_of};
 ghost use Rattle.clap.specs.declared.builder.command.Command.{Command};
 ghost use Rattle.clap.specs.declared.parser.matches.ArgMatches.{ArgMatches};
-ghost use Rattle.click_prog.specs.Asked.{AsksFor, DrawsAlone, Ends, Finds, GoesOn, HasNoNumber, HasNoWord, IsGiven, IsGivenOr, IsInRanges, IsMistyped, IsRefused, IsRefusedFor, usual_idle, values_of};
+ghost use Rattle.click_prog.specs.Asked.{AsksFor, DrawsAlone, Ends, Finds, GoesOn, HasNoNumber, HasNoWord, IsGiven, IsGivenOr, IsInRanges, IsMistyped, IsRefused, IsRefusedFor, LogsOver, usual_idle, values_of};
 ghost use Rattle.click_prog.specs.Links.{AreLinks, IsLinkFault};
 
 use crate::link::{Link, LinkFault, links_of};
@@ -46,6 +46,8 @@ pub struct Options<'a> {
     /// The time after which a session over TCP ends if its client keeps it waiting, in seconds (0 to
     /// 86,400). 0 means never.
     pub idle: u64,
+    /// Whether sessions over TCP are logged on standard error. It is `false` without `port`.
+    pub log: bool,
     /// Whether a picture is drawn, and no session served.
     pub draw: bool,
 }
@@ -59,6 +61,7 @@ pub enum ArgumentRefusal<'a> {
     NotDrawn(NotDrawn),
     NotLive(NotLive),
     OnlyLive(OnlyLive),
+    OnlyOver(OnlyOver),
     Link(LinkFault<'a>),
 }
 
@@ -106,6 +109,13 @@ pub struct OnlyLive {
     option: &'static str,
 }
 
+/// The option that was given without `-p`, and that only sessions over TCP have.
+#[derive(Clone, Copy, Debug, Drop, thiserror::Error)]
+#[error("{option} needs -p")]
+pub struct OnlyOver {
+    option: &'static str,
+}
+
 /// The value of an option that is not a number from `least` to `most` in decimal digits.
 #[derive(Clone, Copy, Debug, Drop, thiserror::Error)]
 #[error("{option}: '{text}' is not a number from {least} to {most} in decimal digits")]
@@ -117,7 +127,7 @@ pub struct NoNumber<'a> {
 }
 
 /// The options of the command line.
-const OPTIONS: [CommandOption; 14] = [
+const OPTIONS: [CommandOption; 15] = [
     TEXT,
     CommandOption {
         id: "port",
@@ -186,6 +196,12 @@ const OPTIONS: [CommandOption; 14] = [
         help: "End a TCP session whose client keeps it waiting for this time (0 to 86400, 0 is never; default 600 with --live, else 0)",
     },
     CommandOption {
+        id: "log",
+        name: OptionName::Long("log"),
+        takes: Takes::Nothing,
+        help: "With -p: print a line on standard error when a session begins or ends, and for each swap and each other write",
+    },
+    CommandOption {
         id: "front",
         name: OptionName::Long("page"),
         takes: Takes::Number("PORT"),
@@ -251,8 +267,11 @@ fn options_in<'a>(
     if let Some(option) = ending_only_option(matches, &options) {
         return Err(ArgumentRefusal::NotLive(NotLive { option }));
     }
-    match live_only_option(matches, &options) {
-        Some(option) => Err(ArgumentRefusal::OnlyLive(OnlyLive { option })),
+    if let Some(option) = live_only_option(matches, &options) {
+        return Err(ArgumentRefusal::OnlyLive(OnlyLive { option }));
+    }
+    match port_only_option(&options) {
+        Some(option) => Err(ArgumentRefusal::OnlyOver(OnlyOver { option })),
         None => Ok(options),
     }
 }
@@ -287,6 +306,7 @@ fn options_found<'a>(
             86_400,
             usual_idle(live),
         )?,
+        log: matches.get_flag("log"),
         draw: matches.get_flag("image"),
     })
 }
@@ -370,6 +390,9 @@ fn run_only_word(found: &Options) -> Option<&'static str>
     if !found.links.is_empty() {
         return Some("--link");
     }
+    if found.log {
+        return Some("--log");
+    }
     None
 }
 
@@ -406,6 +429,18 @@ fn live_only_option(matches: &ArgMatches, options: &Options) -> Option<&'static 
         return Some("--tell");
     }
     None
+}
+
+/// Returns the option that was given without a port for sessions and that only sessions over TCP
+/// have.
+fn port_only_option(options: &Options) -> Option<&'static str>
+    ensures { MatchOption result (LogsOver options.now) (λ _. LogsOver options.now → ⊥) }
+{
+    if options.log && options.port.is_none() {
+        Some("--log")
+    } else {
+        None
+    }
 }
 
 /// Returns the port that was given to an option, if one was.

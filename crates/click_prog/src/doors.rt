@@ -1,7 +1,7 @@
 //! Doors for sessions that do not come over TCP.
 
 use click_streams::{Reading, Writing};
-use click_workers::Door;
+use click_workers::{Door, Observer};
 use std::io::{Stdin, Stdout};
 
 /// A door that lets in only the first session, with standard input and output, whose failures are
@@ -17,6 +17,8 @@ impl Standard {
         Standard { input, output }
     }
 }
+
+impl Observer for Standard {}
 
 impl Door for Standard {
     ghost use Rattle.std.specs.Prelude.{◌≡◌, Some, None, false};

@@ -16,6 +16,8 @@ mod drawing;
 mod link;
 mod link_count;
 mod linking;
+mod log;
+mod log_line;
 mod mode;
 mod number;
 mod paging;
@@ -112,7 +114,9 @@ fn serve<R: Threads + Wait + Net<Listener = TcpListener, Stream = TcpStream> + S
     let session_source = match options.port {
         None => SessionSource::Standard,
         Some(port) => match TcpListener::bind(rt, address_of(port)) {
-            Ok(listener) => SessionSource::Over(listener, idle_limit_of(options.idle)),
+            Ok(listener) => {
+                SessionSource::Over(listener, idle_limit_of(options.idle), options.log)
+            }
             Err(fault) => return refuse_port(host, setup.text, "sessions", port, &fault),
         },
     };
@@ -185,6 +189,7 @@ fn refused(host: &HostRuntime, refusal: &ArgumentRefusal) -> Status {
         ArgumentRefusal::NotDrawn(option) => eprintln!(host; "click_prog: {option}"),
         ArgumentRefusal::NotLive(option) => eprintln!(host; "click_prog: {option}"),
         ArgumentRefusal::OnlyLive(option) => eprintln!(host; "click_prog: {option}"),
+        ArgumentRefusal::OnlyOver(option) => eprintln!(host; "click_prog: {option}"),
         ArgumentRefusal::Link(fault) => eprintln!(host; "click_prog: {fault}"),
     };
     Status::Wrong

@@ -1,6 +1,6 @@
 //! The run that a command line asks for, over a table of handlers.
 
-ghost use Rattle.std.specs.Prelude.{◌≡◌, ◌||◌, ◌<◌, Option, true, false, is_some, option_map};
+ghost use Rattle.std.specs.Prelude.{◌≡◌, ◌||◌, ◌<◌, Bool, Option, true, false, is_some, option_map};
 ghost use Rattle.std.specs.declared.net.TcpListener.{TcpListener};
 ghost use Rattle.std.specs.declared.time.Duration.{Duration};
 ghost use Rattle.click_prog.specs.Running.{RunsAlone};
@@ -8,6 +8,7 @@ ghost use Rattle.click_prog.specs.Serving.{ServesTo, ServesFrom, is_alone, turns
 
 use crate::doors::Standard;
 use crate::linking::{OpenLinks, serve_linked};
+use crate::log::SessionLog;
 use crate::paging::serve_paged;
 use crate::process_figures::ProcessFigures;
 use crate::serving::{Arrivals, Plan, RunSetup, serve_all, serve_live, session};
@@ -31,8 +32,8 @@ use std::time::Duration;
 pub enum SessionSource {
     /// One session, on standard input and output.
     Standard,
-    /// Sessions over TCP, with the idle limit of each.
-    Over(TcpListener, Option<Duration>),
+    /// Sessions over TCP, with the idle limit of each, and whether they are logged.
+    Over(TcpListener, Option<Duration>, bool),
 }
 
 /// The arguments of a run.
@@ -153,7 +154,7 @@ fn serve_source<T: Handlers + Send + Drop, R: Threads + Wait + Sync>(
     ensures alone { session_source ≡ SessionSource.Standard → is_alone (is_some links || is_some page) setup.entry.plan ≡ true → RunsAlone setup.entry.text.now setup.entry.plan.readonly result }
     ensures standard { session_source ≡ SessionSource.Standard → is_alone (is_some links || is_some page) setup.entry.plan ≡ false → ServesFrom ⟦<Standard as Door>⟧.lets_in ⟦<Reading<Stdin> as Source>⟧.input
         ⟦<Writing<Stdout> as Sink>⟧.output ⟦<OpenGate as Gate>⟧.gives ⟦<OpenGate as Gate>⟧.told links (option_map (λ p. p.port) page) setup.entry.plan setup.entry.text.now 1 result }
-    ensures over { (listener : TcpListener) (idle_limit : Option Duration) → session_source ≡ SessionSource.Over listener idle_limit → ServesFrom ⟦<Listening<'static, HostRuntime> as Door>⟧.lets_in ⟦<Reading<TcpStream> as Source>⟧.input
+    ensures over { (listener : TcpListener) (idle_limit : Option Duration) (logged : Bool) → session_source ≡ SessionSource.Over listener idle_limit logged → ServesFrom ⟦<Listening<'static, HostRuntime, SessionLog<'static>> as Door>⟧.lets_in ⟦<Reading<TcpStream> as Source>⟧.input
         ⟦<Writing<TcpStream> as Sink>⟧.output ⟦<OpenGate as Gate>⟧.gives ⟦<OpenGate as Gate>⟧.told links (option_map (λ p. p.port) page) setup.entry.plan setup.entry.text.now
         (turns_of (is_some links || setup.entry.plan.live)) result }
 {
@@ -167,8 +168,9 @@ fn serve_source<T: Handlers + Send + Drop, R: Threads + Wait + Sync>(
             let arrivals = Arrivals::open(&door, 1);
             serve_at(rt, host, table, setup, arrivals, links, page)
         }
-        SessionSource::Over(listener, idle_limit) => {
-            let door = Listening::new(listener, idle_limit, host);
+        SessionSource::Over(listener, idle_limit, logged) => {
+            let log = SessionLog::new(host, logged);
+            let door = Listening::new(listener, idle_limit, host, &log);
             let turns = turns_of(links.is_some() || setup.plan.live);
             let arrivals = Arrivals::open(&door, turns);
             serve_at(rt, host, table, setup, arrivals, links, page)

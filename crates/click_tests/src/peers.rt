@@ -1,7 +1,7 @@
 //! Peers of sessions from memory, and the door by which they come in.
 
 use click_streams::{Reading, Writing};
-use click_workers::Door;
+use click_workers::{Door, Observer};
 use std::alloc::{AllocError, Global};
 use std::io::{self, ErrorKind, Write};
 use std::sync::atomic::{AtomicU64, Ordering};
@@ -89,6 +89,8 @@ impl<'a> Peers<'a> {
         Some(*text)
     }
 }
+
+impl<'a> Observer for Peers<'a> {}
 
 impl<'a> Door for Peers<'a> {
     ghost lets_in = { λ _ _ _. Unit {0} };

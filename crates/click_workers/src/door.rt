@@ -1,10 +1,12 @@
 //! The door, through which sessions come in.
 
+use crate::observer::Observer;
 use click_control::{Ended, ServeFault};
 use click_streams::{Sink, Source};
 
-/// A source of sessions. The thread of each session enters by itself, and may block there.
-pub trait Door: Sync {
+/// A source of sessions, and their observer. The thread of each session enters by itself, and may
+/// block there.
+pub trait Door: Observer + Sync {
     ghost use Rattle.std.specs.Prelude.{ℕ, Option};
 
     /// The reader of a session.

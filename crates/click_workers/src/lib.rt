@@ -10,6 +10,8 @@ mod gate;
 pub mod laws;
 mod linked;
 mod listening;
+mod observed_port;
+mod observer;
 mod open_slots;
 mod opening;
 mod run_seats;
@@ -26,6 +28,7 @@ pub use door::Door;
 pub use gate::{Gate, OpenGate};
 pub use linked::{LinkEnd, LinkSetup, LinkedRan, run_linked, run_linked_with_companion};
 pub use listening::Listening;
+pub use observer::{CallKind, CallSummary, MAX_NAME_BYTES, NoObserver, Observer, SessionRecord};
 pub use opening::Opening;
 pub use runs::{
     AllRan, CompanionRan, MAX_ENTRIES, Ran, RunFault, run, run_live, run_with_companion,

@@ -4,7 +4,9 @@ ghost use Rattle.std.specs.Prelude.{◌≡◌, true, false};
 ghost use Rattle.click_workers.specs.Doors.{has_device_failed};
 
 use crate::door::Door;
-use click_control::{Ended, ServeFault};
+use crate::observer::{CallSummary, Observer, SessionRecord};
+use click_control::{AskFault, Ended, ServeFault};
+use click_router::StoredReply;
 use click_streams::{Reading, Writing};
 use std::io;
 use std::io::Read;
@@ -20,28 +22,32 @@ const MAX_DISCARD_BYTES: usize = 2_097_152;
 /// The maximum number of bytes of one read that discards input.
 const DISCARD_CHUNK_BYTES: usize = 16_384;
 
-/// A door that accepts one TCP connection for each session. Nothing is promised about the peer.
+/// A door that accepts one TCP connection for each session, and reports the sessions to an observer.
+/// Nothing is promised about the peer.
 ///
 /// With an idle limit a read of a session fails if no byte comes for this time. A write fails if
 /// the peer takes no byte for this time.
 #[derive(Drop)]
-pub struct Listening<'a, C> {
+pub struct Listening<'a, C, O> {
     listener: TcpListener,
     idle_limit: Option<Duration>,
     clock: &'a C,
+    observer: &'a O,
 }
 
-impl<'a, C> Listening<'a, C> {
+impl<'a, C, O> Listening<'a, C, O> {
     /// Returns a door at this listener. The idle limit is not 0.
     pub fn new(
         listener: TcpListener,
         idle_limit: Option<Duration>,
         clock: &'a C,
-    ) -> Listening<'a, C> {
+        observer: &'a O,
+    ) -> Listening<'a, C, O> {
         Listening {
             listener,
             idle_limit,
             clock,
+            observer,
         }
     }
 
@@ -55,7 +61,26 @@ impl<'a, C> Listening<'a, C> {
     }
 }
 
-impl<'a, C: Clock + Sync> Door for Listening<'a, C> {
+impl<'a, C: Clock + Sync, O: Observer> Observer for Listening<'a, C, O> {
+    fn session_begins(&self, slot: usize) -> Option<SessionRecord> {
+        self.observer.session_begins(slot)
+    }
+
+    fn call_answered(
+        &self,
+        record: &SessionRecord,
+        summary: &CallSummary,
+        answered: &Result<StoredReply, AskFault>,
+    ) {
+        self.observer.call_answered(record, summary, answered);
+    }
+
+    fn session_ends(&self, ended: &Result<Ended, ServeFault>, record: Option<&SessionRecord>) {
+        self.observer.session_ends(ended, record);
+    }
+}
+
+impl<'a, C: Clock + Sync, O: Observer> Door for Listening<'a, C, O> {
     ghost lets_in = { λ _ _ _. Unit {0} };
 
     type Reader = Reading<TcpStream>;

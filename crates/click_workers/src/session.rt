@@ -8,6 +8,8 @@ ghost use Rattle.click_workers.specs.Work.{Attends, InTurn};
 use crate::door::Door;
 use crate::driver::MIN_SLEEP_US;
 use crate::gate::{AtGate, Gate};
+use crate::observed_port::ObservedPort;
+use crate::observer::Observer;
 use crate::seat_port::SeatPort;
 use crate::service::Service;
 use click_control::{Ended, MAX_READS, ServeFault, Turns, serve, serve_turns};
@@ -62,8 +64,26 @@ pub enum SessionEnd {
     Served(Result<Ended, ServeFault>),
 }
 
+/// Serves a session over a port that is observed, with the maximum number of reads. Reports its end
+/// to the observer.
+fn serve_observed<T: Handlers, S: Source, W: Sink, G: Turns, O: Observer, R: Wait, B: Wait + Drop>(
+    alloc: Global,
+    mut port: ObservedPort<SeatPort<T, R, B>, O>,
+    reader: &mut S,
+    writer: &mut W,
+    readonly: bool,
+    turns: &mut G,
+) -> (Result<Ended, ServeFault>, Seat<T>)
+    ensures { SeatServes readonly most_reads (WentThrough G.turn G.done turns.old turns.new) port.entry result.1 (S.input reader.old) (S.input reader.new)
+        (W.output writer.old) (W.output writer.new) result.0 }
+{
+    let ended = serve_turns(alloc, reader, writer, &mut port, readonly, turns, MAX_READS);
+    let seat = port.end(&ended).into_seat();
+    (ended, seat)
+}
+
 /// Lets one session in through the door, under the number `who`, and serves it over the seat. Then
-/// the session leaves through the door.
+/// the session leaves through the door. The door observes the session.
 fn serve_entrant<T: Handlers, D: Door, G: Gate, R: Wait>(
     rt: &R,
     desk: &Desk<T, &R>,
@@ -81,14 +101,13 @@ fn serve_entrant<T: Handlers, D: Door, G: Gate, R: Wait>(
         return (SessionEnd::NoEntry, seat);
     };
     let mut turns = AtGate::new(gate, who);
-    let (ended, seat) = serve_seat(
+    let (ended, seat) = serve_observed(
         service.alloc,
-        SeatPort::new(rt, desk, seat),
+        ObservedPort::begin(SeatPort::new(rt, desk, seat), door, who),
         &mut reader,
         &mut writer,
         service.readonly,
         &mut turns,
-        MAX_READS,
     );
     door.leave(who, &ended, reader, writer);
     (SessionEnd::Served(ended), seat)

@@ -1,0 +1,150 @@
+//! The log of sessions over TCP on standard error, and the numbers of these sessions.
+
+use crate::log_line::LogLine;
+use click_control::{AskFault, Ended, ServeFault};
+use click_router::{CompactReply, StoredReply};
+use click_workers::{CallKind, CallSummary, Observer, SessionRecord};
+use jiff::Timestamp;
+use std::io::Write;
+use std::sync::atomic::{AtomicU64, Ordering};
+
+/// Counts the sessions of a run, and logs what they do if that is asked for.
+///
+/// A line is written with one write, so that lines of several threads do not mix. Its session waits
+/// for the write. A failed write does not affect the run.
+#[derive(Drop)]
+pub struct SessionLog<'a> {
+    host: &'a HostRuntime,
+    /// Whether lines are written.
+    is_on: bool,
+    begun: AtomicU64,
+    ended: AtomicU64,
+}
+
+impl<'a> SessionLog<'a> {
+    pub fn new(host: &'a HostRuntime, is_on: bool) -> SessionLog<'a> {
+        SessionLog {
+            host,
+            is_on,
+            begun: AtomicU64::new(0),
+            ended: AtomicU64::new(0),
+        }
+    }
+
+    /// Returns the number of sessions that have begun.
+    pub fn begun(&self) -> u64 {
+        self.begun.load(Ordering::SeqCst)
+    }
+
+    /// Returns the number of sessions that have begun and not ended.
+    pub fn open(&self) -> u64 {
+        // A session that begins after the first load is not counted.
+        let ended = self.ended.load(Ordering::SeqCst);
+        self.begun().saturating_sub(ended)
+    }
+
+    /// Returns a line with the time. If the clock cannot be read, the line has no time.
+    fn line(&self, session: u64) -> LogLine {
+        LogLine::begin(Timestamp::now(self.host).ok(), session)
+    }
+
+    fn write(&self, mut line: LogLine) {
+        // A failed write does not affect the run.
+        let _ = self.host.stderr().write_all(line.ended());
+    }
+}
+
+impl<'a> Observer for SessionLog<'a> {
+    fn session_begins(&self, slot: usize) -> Option<SessionRecord> {
+        let number = self.begun.fetch_add(1, Ordering::SeqCst).saturating_add(1);
+        if !self.is_on {
+            return None;
+        }
+        let mut line = self.line(number);
+        line.push_number(" begins slot=", slot as u64);
+        self.write(line);
+        Some(SessionRecord::new(number))
+    }
+
+    fn call_answered(
+        &self,
+        record: &SessionRecord,
+        summary: &CallSummary,
+        answered: &Result<StoredReply, AskFault>,
+    ) {
+        if !matches!(summary.kind, CallKind::Swap | CallKind::Write) {
+            return;
+        }
+        let mut line = self.line(record.number);
+        push_write(&mut line, summary);
+        push_outcome(&mut line, summary.kind, answered);
+        self.write(line);
+    }
+
+    fn session_ends(&self, ended: &Result<Ended, ServeFault>, record: Option<&SessionRecord>) {
+        self.ended.fetch_add(1, Ordering::SeqCst);
+        let Some(record) = record else {
+            return;
+        };
+        let mut line = self.line(record.number);
+        line.push(" ends cause=");
+        line.push(cause_of(ended));
+        line.push_number(" reads=", record.reads);
+        line.push_number(" writes=", record.writes);
+        line.push_number(" checks=", record.checks);
+        line.push_number(" failed=", record.failed);
+        self.write(line);
+    }
+}
+
+/// Appends what was written: the name of the handler, unless it is a swap, and the number of bytes.
+fn push_write(line: &mut LogLine, summary: &CallSummary) {
+    if summary.kind == CallKind::Swap {
+        line.push(" swap");
+    } else {
+        line.push(" write=");
+        line.push_name(summary.name.as_slice());
+        if summary.is_cut {
+            line.push("...");
+        }
+    }
+    line.push_number(" bytes=", summary.bytes as u64);
+}
+
+/// Appends the outcome of a write or a swap.
+fn push_outcome(line: &mut LogLine, kind: CallKind, answered: &Result<StoredReply, AskFault>) {
+    line.push(" outcome=");
+    match answered {
+        Err(AskFault::NoMemory) => line.push("failed cause=no-memory"),
+        Err(AskFault::HistoryFull) => line.push("failed cause=history-full"),
+        Ok(reply) => match reply.compact() {
+            CompactReply::Done if kind == CallKind::Swap => line.push("installed"),
+            CompactReply::Done => line.push("done"),
+            CompactReply::NoElement => line.push("no-element"),
+            CompactReply::NoHandler => line.push("no-handler"),
+            CompactReply::WrongWay => line.push("wrong-way"),
+            CompactReply::Handler(fault) => {
+                line.push("fault");
+                line.push_fault(*fault);
+            }
+            CompactReply::Config(fault) => {
+                line.push("fault");
+                line.push_fault(&**fault);
+            }
+            _ => line.push("other"),
+        },
+    }
+}
+
+/// Returns the word for the way in which a session ended.
+fn cause_of(ended: &Result<Ended, ServeFault>) -> &'static str {
+    match ended {
+        Ok(Ended::Quit) => "quit",
+        Ok(Ended::EndOfInput) => "end-of-input",
+        Ok(Ended::TooLong) => "too-long",
+        Ok(Ended::GateClosed) => "gate-closed",
+        Err(ServeFault::ReadFailed) => "read-failed",
+        Err(ServeFault::WriteFailed) => "write-failed",
+        Err(ServeFault::NoMemory) => "no-memory",
+    }
+}
