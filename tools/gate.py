@@ -86,6 +86,7 @@ SCRIPTS = (
     Part("tutorial", "the commands of docs/TUTORIAL.md print what it shows", "tools/tutorial.py", (PROG,)),
     Part("sessions", "concurrent sessions over TCP get replies that one thread could get", "tools/sessions.sh", (PROG,), ("7777",)),
     Part("service", "sessions end in time, lose no reply at their end, and leave nothing behind", "tools/service.py", (PROG,), ("time",)),
+    Part("log", "--log prints a line for each session, swap and write, which no client can forge", "tools/session_log.py", (PROG,)),
     Part("gateway", "the router connects two Linux networks", "examples/gateway/run.sh", (PROG,)),
     Part("ethernet", "the router answers ARP and ICMP between two Ethernets with Linux hosts", "examples/ethernet/run.sh", (PROG,)),
     Part("testbed", "a line and a ring of routers carry pings over swaps, around a dead router and in a flood", "examples/testbed/run.sh --test", (PROG,), ("time",)),

@@ -222,7 +222,7 @@ def booted(layers: str, what: str) -> str:
 def reloaded(name: str, faults: int) -> dict[str, str]:
     """Returns what is seen of two reloads, after which the journal has this number of faults."""
     elements = listed("Idle@1", name, "Discard@3")
-    wanted = {"reloaded": "0", "list": elements, "refused": "1", "fault": str(faults), "unchanged": elements, "process": "same active"}
+    wanted = {"reloaded": "0", "list": elements, "refused": "1", "fault": str(faults), "logged": str(faults), "unchanged": elements, "process": "same active"}
     return {f"{name} {it}": value for it, value in wanted.items()}
 
 

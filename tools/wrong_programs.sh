@@ -211,23 +211,19 @@ case_wrong() {
 sessions_wrong() { case_wrong tools/sessions.sh "$@"; }
 hostile_wrong() { case_wrong tools/hostile.sh "$@"; }
 links_wrong() { case_wrong tools/udp_links.py "$@"; }
-# service_wrong CASE WHAT MESSAGE LINE..: the message has to name the check, because a program that
-# does not start is refused too.
-service_wrong() {
-    local case=$1 what=$2 message=$3
-    shift 3
-    case_wrong tools/service.py "$case" "$what" "$@"
-    if ! grep -q -e "$message" "$work/err"; then fail "a program with $what: wanted a message with: $message" "$(shown "$work/err")"; fi
-}
 gateway_wrong() { case_wrong examples/gateway/run.sh '' "$@"; }
-# ethernet_wrong WHAT MESSAGE LINE..: the message has to name the check, because a configuration that
-# does not start is refused too.
-ethernet_wrong() {
-    local what=$1 message=$2
-    shift 2
-    case_wrong examples/ethernet/run.sh '' "$what" "$@"
+# named_wrong SCRIPT CASE WHAT MESSAGE LINE..: does the same. The message has to name the check,
+# because a program or a configuration that does not start is refused too.
+named_wrong() {
+    local script=$1 case=$2 what=$3 message=$4
+    shift 4
+    case_wrong "$script" "$case" "$what" "$@"
     if ! grep -q -e "$message" "$work/err"; then fail "a program with $what: wanted a message with: $message" "$(shown "$work/err")"; fi
 }
+service_wrong() { named_wrong tools/service.py "$@"; }
+log_wrong() { named_wrong tools/session_log.py "$@"; }
+# ethernet_wrong WHAT MESSAGE LINE..
+ethernet_wrong() { named_wrong examples/ethernet/run.sh '' "$@"; }
 
 # exchanged FROM TO: prints lines that start the program with one argument replaced.
 exchanged() { printf 'for word; do shift; if [ "$word" = %s ]; then word=%s; fi; set -- "$@" "$word"; done\nexec "$program" "$@"\n' "$1" "$2"; }
@@ -359,6 +355,21 @@ wrong_service() {
     service_wrong many 'memory for each session' 'after 100 sessions' "$(accepts 'memset(malloc(8192), 1, 8192)')"
 }
 
+# wrong_log: lines of --log that are left out, wrong, mixed, forged or not asked for.
+wrong_log() {
+    log_wrong ends 'another cause' 'the lines of session 1' "$(retold 's/cause=quit/cause=end-of-input/')"
+    log_wrong ends 'another number' 'the number of a session' "$(retold 's/session=2/session=3/')"
+    log_wrong ends 'a time of another year' 'the time is not' "$(retold 's/^2/1/')"
+    log_wrong swaps 'a swap that is left out' 'the lines of session 1' "$(retold '/outcome=installed/d')"
+    log_wrong swaps 'another position of a fault' 'the lines of session 1' "$(retold 's/ at 1:9/ at 1:8/')"
+    log_wrong writes 'a name with the end of a line' 'not a line of the log' "$(retold 's/\\x0b/\n/')"
+    log_wrong readonly 'writes though it may only read' 'the lines of session 1' "$writes"
+    log_wrong full 'another cause of a failed call' 'about a full book' "$(retold 's/history-full/no-memory/')"
+    log_wrong parallel 'two lines in one' 'not a line of the log' "$(retold 'N;s/\n//')"
+    log_wrong without 'a line without --log' 'the outputs' 'echo junk >&2' 'exec "$program" "$@"'
+    log_wrong unwritable 'an end if no line can be written' 'refused' 'if ! echo > /dev/stderr; then exit 4; fi' 'exec "$program" "$@"'
+}
+
 # The gate shows that the scripts pass over the program. Here a starter that changes nothing is
 # tried in one case of each script.
 network() {
@@ -369,6 +380,7 @@ network() {
     PROGRAM=$work/listening passes tools/sessions.sh tools/sessions.sh counting
     PROGRAM=$work/listening passes tools/hostile.sh tools/hostile.sh neighbours
     PROGRAM=$work/listening passes tools/service.py tools/service.py replies many
+    PROGRAM=$work/listening passes tools/session_log.py tools/session_log.py swaps parallel
     PROGRAM=$work/listening PACKETS=20000 passes tools/udp_links.py tools/udp_links.py carrying
 
     sessions_wrong counting 'a router for each session, one after another' "$alone"
@@ -393,6 +405,7 @@ network() {
     hostile_wrong rounds 'a round less' "$(exchanged 200000 199999)"
 
     wrong_service
+    wrong_log
 
     links_wrong refused 'status 0 at wrong arguments' '"$program" "$@"' 'exit 0'
     links_wrong sizes 'an open door' "$(relayed open)"

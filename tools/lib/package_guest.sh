@@ -37,8 +37,10 @@ ask() {
 # process NAME: prints the process of a router.
 process() { systemctl show -P MainPID "click@$1"; }
 
-# said PATTERN: prints how often a line of the journal of the router `line` has the pattern.
-said() { journalctl --sync; journalctl -u click@line -o cat | grep -c "$1"; }
+# said, logged PATTERN: print how often a line of the journal of the router `line` has the pattern:
+# a line of clickd, or one of the router's log.
+said() { journalctl --sync; journalctl -u click@line -o cat | grep -v ' session=' | grep -c "$1"; }
+logged() { journalctl --sync; journalctl -u click@line -o cat | grep ' session=' | grep -c "$1"; }
 
 # use TEXT: makes the text the file of the router `line`.
 use() { printf '%s\n' "$@" > /etc/click/line.click; }
@@ -90,6 +92,7 @@ try_reload() {
     use 'Idle -> Discard;' "Idle -> no_$1;"
     note "$1 refused" "$(status_of systemctl reload click@line)"
     note "$1 fault" "$(said '11 UnknownName')"
+    note "$1 logged" "$(logged ' swap .* outcome=fault fault="11 UnknownName at 2:9"$')"
     note "$1 unchanged" "$(ask 'READ list')"
     note "$1 process" "$(if [ "$(process line)" = "$number" ]; then echo same; else echo other; fi) $(systemctl is-active click@line)"
 }

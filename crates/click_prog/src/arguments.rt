@@ -199,7 +199,7 @@ const OPTIONS: [CommandOption; 15] = [
         id: "log",
         name: OptionName::Long("log"),
         takes: Takes::Nothing,
-        help: "With -p: print a line on standard error when a session begins or ends, and for each swap and each other write",
+        help: "With -p: print a line on standard error for each session that begins or ends, each swap and each other write",
     },
     CommandOption {
         id: "front",

@@ -7,7 +7,7 @@ use click_router::{Call, StoredReply};
 /// The maximum number of bytes of a handler's name in a summary.
 pub const MAX_NAME_BYTES: usize = 64;
 
-/// What an observer is told of sessions. No contract says anything of it.
+/// What is notified of sessions. No contract mentions it.
 ///
 /// The thread of each session calls it, and the session waits until it returns. Without an
 /// implementation nothing is observed.
