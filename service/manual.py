@@ -170,6 +170,7 @@ def main(words: list[str]) -> None:
             body += [f'.SH "{heading.upper()}"', *markdown(section_of("CLICKCTL.md", heading))]
     else:
         body += [".SH EXIT STATUS", *markdown(section_of("CONTROL.md", "Exit status"))]
+        body += [".SH LOG", *markdown(section_of("CONTROL.md", "The log"))]
         body += [".SH PROTOCOL OF CONTROL SESSIONS", *markdown(section_of("CONTROL.md", "The protocol"))]
     print(page(name, 1, about, body), end="")
 

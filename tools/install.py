@@ -163,7 +163,7 @@ def pages(tree: Tree) -> None:
     text = ran(f"{tree.dest}/{PREFIX}/bin/click_prog", "--help").err
     for option in re.findall(r"^ +(-\w|--\w+)", text, re.M):
         has(shown["man1/click_prog.1"], option, "click_prog.1")
-    for part in ("EXIT STATUS", "4 A socket could not be opened", "530 Permission denied for 'H'", "or --help or --version was given"):
+    for part in ("EXIT STATUS", "4 A socket could not be opened", "530 Permission denied for 'H'", 'outcome=fault fault="11 UnknownName at 2:9"', "or --help or --version was given"):
         has(shown["man1/click_prog.1"], part, "click_prog.1")
     for part in ("/etc/click/NAME.click", "/etc/click/NAME.conf", "OPTIONS=", "systemctl reload"):
         has(shown["man5/click.5"], part, "click.5")

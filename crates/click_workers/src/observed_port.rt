@@ -1,7 +1,6 @@
 //! A port whose calls are reported to an observer.
 
-ghost use Rattle.std.specs.Prelude.{◌≡◌, false};
-ghost use Rattle.click_router.specs.Polls.{is_poll};
+ghost use Rattle.std.specs.Prelude.{◌≡◌};
 
 use crate::observer::{CallSummary, Observer, SessionRecord};
 use click_control::{AskFault, Ended, Port, ServeFault};
@@ -50,37 +49,20 @@ impl<'a, P, O: Observer> ObservedPort<'a, P, O> {
     }
 }
 
-impl<'a, P: Port, O: Observer> ObservedPort<'a, P, O> {
-    /// Makes a call, and reports it with its reply.
-    ///
-    /// perf: out of line, because the summary takes room.
-    #[cold]
-    #[inline(never)]
-    fn ask_reporting(
-        &mut self,
-        alloc: Global,
-        call: Call,
-        mut record: SessionRecord,
-    ) -> Result<StoredReply, AskFault>
-        requires { is_poll call ≡ false }
-        ensures { P.asks self.old call result self.new }
-    {
+impl<'a, P: Port, O: Observer> Port for ObservedPort<'a, P, O> {
+    ghost asks = { P.asks };
+
+    // The observer is called here and not in a function of its own: the borrow checker does not
+    // cover a call that passes on a bound with `Sync` from an impl of a trait without it.
+    fn ask_stored(&mut self, alloc: Global, call: Call) -> Result<StoredReply, AskFault> {
+        let Some(mut record) = self.record else {
+            return self.port.ask_stored(alloc, call);
+        };
         let summary = CallSummary::of(&call);
         let answered = self.port.ask_stored(alloc, call);
         record.count(summary.kind, answered.is_err());
         self.observer.call_answered(&record, &summary, &answered);
         self.record = Some(record);
         answered
-    }
-}
-
-impl<'a, P: Port, O: Observer> Port for ObservedPort<'a, P, O> {
-    ghost asks = { P.asks };
-
-    fn ask_stored(&mut self, alloc: Global, call: Call) -> Result<StoredReply, AskFault> {
-        match self.record {
-            None => self.port.ask_stored(alloc, call),
-            Some(record) => self.ask_reporting(alloc, call, record),
-        }
     }
 }
