@@ -38,7 +38,7 @@ impl<'a> SessionLog<'a> {
 
     /// Returns the number of sessions that have begun and not ended.
     pub fn open(&self) -> u64 {
-        // A session that begins after the first load is not counted.
+        // This is read first, so that it is never the greater number.
         let ended = self.ended.load(Ordering::SeqCst);
         self.begun().saturating_sub(ended)
     }

@@ -8,11 +8,11 @@ pub returns-clause-attends : goal.returns-clause-attends
 returns-clause-attends g c = (
   c.in-Some.reader,
   c.in-Some.writer,
-  c.serve_seat-ended.new.reader,
-  c.serve_seat-ended.new.writer,
-  c.serve_seat-ended.new.turns,
+  c.serve_observed-ended.new.reader,
+  c.serve_observed-ended.new.writer,
+  c.serve_observed-ended.new.turns,
   c.in-Some.ensures,
-  subst (λ p. SeatServes c.args.service.now.readonly most_reads (WentThrough (AsksGate g.G.Gate.gives) (TellsGate g.G.Gate.told) p c.serve_seat-ended.new.turns)
-      c.args.seat c.serve_seat-ended.result.1 (g.D.Reader.Source.input c.in-Some.reader) (g.D.Reader.Source.input c.serve_seat-ended.new.reader)
-      (g.D.Writer.Sink.output c.in-Some.writer) (g.D.Writer.Sink.output c.serve_seat-ended.new.writer) c.serve_seat-ended.result.0) c.new-turns.ensures (rw c.new.ensures at c.serve_seat-ended.ensures),
+  subst (λ p. SeatServes c.args.service.now.readonly most_reads (WentThrough (AsksGate g.G.Gate.gives) (TellsGate g.G.Gate.told) p c.serve_observed-ended.new.turns)
+      c.args.seat c.serve_observed-ended.result.1 (g.D.Reader.Source.input c.in-Some.reader) (g.D.Reader.Source.input c.serve_observed-ended.new.reader)
+      (g.D.Writer.Sink.output c.in-Some.writer) (g.D.Writer.Sink.output c.serve_observed-ended.new.writer) c.serve_observed-ended.result.0) c.new-turns.ensures (rw (c.begin.ensures, c.new.ensures) at c.serve_observed-ended.ensures),
 )
