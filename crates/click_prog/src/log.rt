@@ -1,12 +1,12 @@
-//! The log of sessions over TCP on standard error, and the numbers of these sessions.
+//! The log of sessions over TCP on standard error.
 
 use crate::log_line::LogLine;
+use crate::session_counts::SessionCounts;
 use click_control::{AskFault, Ended, ServeFault};
 use click_router::{CompactReply, StoredReply};
 use click_workers::{CallKind, CallSummary, Observer, SessionRecord};
 use jiff::Timestamp;
 use std::io::Write;
-use std::sync::atomic::{AtomicU64, Ordering};
 
 /// Counts the sessions of a run, and logs what they do if that is asked for.
 ///
@@ -15,32 +15,18 @@ use std::sync::atomic::{AtomicU64, Ordering};
 #[derive(Drop)]
 pub struct SessionLog<'a> {
     host: &'a HostRuntime,
+    counts: &'a SessionCounts,
     /// Whether lines are written.
     is_on: bool,
-    begun: AtomicU64,
-    ended: AtomicU64,
 }
 
 impl<'a> SessionLog<'a> {
-    pub fn new(host: &'a HostRuntime, is_on: bool) -> SessionLog<'a> {
+    pub fn new(host: &'a HostRuntime, counts: &'a SessionCounts, is_on: bool) -> SessionLog<'a> {
         SessionLog {
             host,
+            counts,
             is_on,
-            begun: AtomicU64::new(0),
-            ended: AtomicU64::new(0),
         }
-    }
-
-    /// Returns the number of sessions that have begun.
-    pub fn begun(&self) -> u64 {
-        self.begun.load(Ordering::SeqCst)
-    }
-
-    /// Returns the number of sessions that have begun and not ended.
-    pub fn open(&self) -> u64 {
-        // This is read first, so that it is never the greater number.
-        let ended = self.ended.load(Ordering::SeqCst);
-        self.begun().saturating_sub(ended)
     }
 
     /// Returns a line with the time. If the clock cannot be read, the line has no time.
@@ -56,7 +42,7 @@ impl<'a> SessionLog<'a> {
 
 impl<'a> Observer for SessionLog<'a> {
     fn session_begins(&self, slot: usize) -> Option<SessionRecord> {
-        let number = self.begun.fetch_add(1, Ordering::SeqCst).saturating_add(1);
+        let number = self.counts.begins();
         if !self.is_on {
             return None;
         }
@@ -82,7 +68,7 @@ impl<'a> Observer for SessionLog<'a> {
     }
 
     fn session_ends(&self, ended: &Result<Ended, ServeFault>, record: Option<&SessionRecord>) {
-        self.ended.fetch_add(1, Ordering::SeqCst);
+        self.counts.ends();
         let Some(record) = record else {
             return;
         };

@@ -78,7 +78,7 @@ fn push_sessions(
         b"Number of open sessions.",
         b"gauge",
     )?;
-    push_line(text, b"click_sessions", sessions.open() as u64)?;
+    push_line(text, b"click_sessions", sessions.open())?;
     push_family(
         text,
         b"click_session_slots",

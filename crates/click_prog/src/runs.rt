@@ -158,6 +158,7 @@ fn serve_source<T: Handlers + Send + Drop, R: Threads + Wait + Sync>(
         ⟦<Writing<TcpStream> as Sink>⟧.output ⟦<OpenGate as Gate>⟧.gives ⟦<OpenGate as Gate>⟧.told links (option_map (λ p. p.port) page) setup.entry.plan setup.entry.text.now
         (turns_of (is_some links || setup.entry.plan.live)) result }
 {
+    let sessions = SessionCounts::new();
     match session_source {
         SessionSource::Standard if is_alone(&setup.plan, links.is_some() || page.is_some()) => {
             let (status, _, _) = session(rt, host, table, setup, host.stdin(), host.stdout());
@@ -166,19 +167,20 @@ fn serve_source<T: Handlers + Send + Drop, R: Threads + Wait + Sync>(
         SessionSource::Standard => {
             let door = Standard::new(host.stdin(), host.stdout());
             let arrivals = Arrivals::open(&door, 1);
-            serve_at(rt, host, table, setup, arrivals, links, page)
+            serve_at(rt, host, table, setup, arrivals, links, page, &sessions)
         }
         SessionSource::Over(listener, idle_limit, logged) => {
-            let log = SessionLog::new(host, logged);
+            let log = SessionLog::new(host, &sessions, logged);
             let door = Listening::new(listener, idle_limit, host, &log);
             let turns = turns_of(links.is_some() || setup.plan.live);
             let arrivals = Arrivals::open(&door, turns);
-            serve_at(rt, host, table, setup, arrivals, links, page)
+            serve_at(rt, host, table, setup, arrivals, links, page, &sessions)
         }
     }
 }
 
-/// Serves sessions that come in at a door, with links and a page if these are opened.
+/// Serves sessions that come in at a door, with links and a page if these are opened. The metrics of
+/// the page have these counts.
 fn serve_at<T: Handlers + Send + Drop, D: Door, R: Threads + Wait + Sync>(
     rt: &R,
     host: &HostRuntime,
@@ -187,13 +189,13 @@ fn serve_at<T: Handlers + Send + Drop, D: Door, R: Threads + Wait + Sync>(
     arrivals: Arrivals<D, OpenGate>,
     links: Option<OpenLinks>,
     page: Option<HttpListener>,
+    sessions: &SessionCounts,
 ) -> Status
     requires { 0 < arrivals.turns }
     ensures { ServesTo D.lets_in D.Reader.input D.Writer.output ⟦<OpenGate as Gate>⟧.gives ⟦<OpenGate as Gate>⟧.told links (option_map (λ p. p.port) page) setup.entry.plan setup.entry.text.now
         arrivals.entry.turns arrivals.entry.door.now result }
 {
-    let sessions = SessionCounts::new();
-    let figures = ProcessFigures::new(host, &sessions, setup.plan.sessions);
+    let figures = ProcessFigures::new(host, sessions, setup.plan.sessions);
     match links {
         Some(opened_links) => serve_linked(
             rt,
