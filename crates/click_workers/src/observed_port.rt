@@ -52,8 +52,8 @@ impl<'a, P, O: Observer> ObservedPort<'a, P, O> {
 impl<'a, P: Port, O: Observer> Port for ObservedPort<'a, P, O> {
     ghost asks = { P.asks };
 
-    // The observer is called here and not in a function of its own: the borrow checker does not
-    // cover a call that passes on a bound with `Sync` from an impl of a trait without it.
+    // proof: the observer is called here and not in a function of its own. `Port` has no bound
+    // `Sync`, and the borrow checker does not cover a call from its impl that passes one on.
     fn ask_stored(&mut self, alloc: Global, call: Call) -> Result<StoredReply, AskFault> {
         let Some(mut record) = self.record else {
             return self.port.ask_stored(alloc, call);
