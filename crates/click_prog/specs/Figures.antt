@@ -19,6 +19,10 @@ value_text value = codes " " ++ decimal value ++ codes "\n"
 abbrev pub line_text : List ℕ → ℕ → List ℕ
 line_text metric value = metric ++ value_text value
 
+-- a metric without labels
+abbrev pub metric_text : List ℕ → List ℕ → List ℕ → ℕ → List ℕ
+metric_text metric help kind value = family_text metric help kind ++ line_text metric value
+
 -- the line of a metric of a link
 abbrev pub link_line_text : List ℕ → List ℕ → ℕ → List ℕ
 link_line_text metric device value = metric ++ codes "{device=\"" ++ escaped device ++ codes "\"}" ++ value_text value

@@ -1,7 +1,7 @@
 //! The figures of the process for metrics: its sessions, its links and its memory.
 
 ghost use Rattle.std.specs.Prelude.{◌≡◌, ◌++◌, OnOk};
-ghost use Rattle.click_prog.specs.Figures.{Extends, family_text, line_text, link_line_text, value_text};
+ghost use Rattle.click_prog.specs.Figures.{Extends, family_text, line_text, link_line_text, metric_text, value_text};
 
 use crate::link_count::{LINK_COUNTS, LinkCount};
 use crate::process_memory::read_memory;
@@ -72,27 +72,28 @@ fn push_sessions(
 ) -> Result<(), AllocError>
     ensures { OnOk result (Extends text.old.items text.new.items) }
 {
-    push_family(
+    let (open, begun) = (sessions.open() as u64, sessions.begun());
+    push_metric(
         text,
         b"click_sessions",
         b"Number of open sessions.",
         b"gauge",
+        open,
     )?;
-    push_line(text, b"click_sessions", sessions.open())?;
-    push_family(
+    push_metric(
         text,
         b"click_session_slots",
         b"Number of session slots.",
         b"gauge",
+        slots as u64,
     )?;
-    push_line(text, b"click_session_slots", slots as u64)?;
-    push_family(
+    push_metric(
         text,
         b"click_sessions_total",
         b"Number of sessions that have begun.",
         b"counter",
-    )?;
-    push_line(text, b"click_sessions_total", sessions.begun())
+        begun,
+    )
 }
 
 /// Appends the counts of the links of these devices, if there are any.
@@ -152,20 +153,34 @@ fn push_memory(host: &HostRuntime, text: &mut Vec<u8>) -> Result<(), AllocError>
     let Some(memory) = read_memory(host) else {
         return Ok(());
     };
-    push_family(
+    push_metric(
         text,
         b"process_resident_memory_bytes",
         b"Number of bytes of the process that lie in memory.",
         b"gauge",
+        memory.resident,
     )?;
-    push_line(text, b"process_resident_memory_bytes", memory.resident)?;
-    push_family(
+    push_metric(
         text,
         b"process_virtual_memory_bytes",
         b"Number of bytes that the process has mapped.",
         b"gauge",
-    )?;
-    push_line(text, b"process_virtual_memory_bytes", memory.mapped)
+        memory.mapped,
+    )
+}
+
+/// Appends a metric without labels.
+fn push_metric(
+    text: &mut Vec<u8>,
+    metric: &[u8],
+    help: &[u8],
+    kind: &[u8],
+    value: u64,
+) -> Result<(), AllocError>
+    ensures { OnOk result (text.new.items ≡ text.old.items ++ metric_text metric.now help.now kind.now value) }
+{
+    push_family(text, metric, help, kind)?;
+    push_line(text, metric, value)
 }
 
 /// Appends the lines that begin a metric: its description and its type.
