@@ -1,10 +1,6 @@
 -- The lines of figures, in Prometheus' text format 0.0.4.
-use Rattle.std.specs.Prelude.{◌≡◌, ℕ, List, ◌++◌, codes, decimal}
+use Rattle.std.specs.Prelude.{ℕ, List, ◌++◌, codes, decimal}
 use Rattle.click_page.specs.Lines.{escaped}
-
--- the text with something appended, or nothing
-abbrev pub Extends : List ℕ → List ℕ → Type 0
-Extends old new = (more : List ℕ) × (new ≡ old ++ more)
 
 -- the lines that begin a metric: its description and its type
 abbrev pub family_text : List ℕ → List ℕ → List ℕ → List ℕ

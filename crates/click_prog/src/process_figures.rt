@@ -1,7 +1,7 @@
 //! The figures of the process for metrics: its sessions, its links and its memory.
 
 ghost use Rattle.std.specs.Prelude.{◌≡◌, ◌++◌, OnOk};
-ghost use Rattle.click_prog.specs.Figures.{Extends, family_text, line_text, link_line_text, metric_text, value_text};
+ghost use Rattle.click_prog.specs.Figures.{family_text, line_text, link_line_text, metric_text, value_text};
 
 use crate::link_count::{LINK_COUNTS, LinkCount};
 use crate::process_memory::read_memory;
@@ -58,9 +58,12 @@ impl Figures for ProcessFigures<'_> {
     ghost gives = { λ _ _. Unit {0} };
 
     fn push_to(&self, text: &mut Vec<u8>) -> Result<(), AllocError> {
-        push_sessions(text, self.sessions, self.slots)?;
-        push_links(self.host.alloc(), text, self.devices)?;
-        push_memory(self.host, text)
+        let mut figures = Vec::new(self.host.alloc());
+        push_sessions(&mut figures, self.sessions, self.slots)?;
+        push_links(self.host.alloc(), &mut figures, self.devices)?;
+        push_memory(self.host, &mut figures)?;
+        text.extend_from_slice(figures.as_slice())?;
+        Ok(())
     }
 }
 
@@ -69,10 +72,8 @@ fn push_sessions(
     text: &mut Vec<u8>,
     sessions: &SessionCounts,
     slots: usize,
-) -> Result<(), AllocError>
-    ensures { OnOk result (Extends text.old.items text.new.items) }
-{
-    let (open, begun) = (sessions.open() as u64, sessions.begun());
+) -> Result<(), AllocError> {
+    let (open, begun) = (sessions.open(), sessions.begun());
     push_metric(
         text,
         b"click_sessions",
@@ -97,9 +98,7 @@ fn push_sessions(
 }
 
 /// Appends the counts of the links of these devices, if there are any.
-fn push_links(alloc: Global, text: &mut Vec<u8>, devices: &[Device]) -> Result<(), AllocError>
-    ensures { OnOk result (Extends text.old.items text.new.items) }
-{
+fn push_links(alloc: Global, text: &mut Vec<u8>, devices: &[Device]) -> Result<(), AllocError> {
     if devices.is_empty() {
         return Ok(());
     }
@@ -119,9 +118,7 @@ fn push_link_count(
     link_count: LinkCount,
     devices: &[Device],
     counted: &[CountSnapshot],
-) -> Result<(), AllocError>
-    ensures { OnOk result (Extends text.old.items text.new.items) }
-{
+) -> Result<(), AllocError> {
     push_family(text, link_count.metric(), link_count.help(), b"counter")?;
     for (device, counted) in devices.iter().zip(counted) {
         let value = link_count.value(counted);
@@ -147,9 +144,7 @@ fn push_link_line(
 }
 
 /// Appends the memory of the process, if it can be read.
-fn push_memory(host: &HostRuntime, text: &mut Vec<u8>) -> Result<(), AllocError>
-    ensures { OnOk result (Extends text.old.items text.new.items) }
-{
+fn push_memory(host: &HostRuntime, text: &mut Vec<u8>) -> Result<(), AllocError> {
     let Some(memory) = read_memory(host) else {
         return Ok(());
     };
