@@ -60,7 +60,36 @@ pub fn serve_linked<T: Handlers + Send + Drop, D: Door, R: Threads + Wait + Sync
     let Ok(devices) = opened_links.sockets.links.devices(host.alloc()) else {
         return Status::NoMemory;
     };
-    let devices = devices.as_slice();
+    serve_with_devices(
+        rt,
+        host,
+        table,
+        setup,
+        arrivals,
+        opened_links,
+        devices.as_slice(),
+        page,
+        figures,
+    )
+}
+
+/// Does what `serve_linked` does. The devices are those of the links, and have their counts.
+fn serve_with_devices<T: Handlers + Send + Drop, D: Door, R: Threads + Wait + Sync>(
+    rt: &R,
+    host: &HostRuntime,
+    table: T,
+    setup: RunSetup,
+    arrivals: Arrivals<D, OpenGate>,
+    opened_links: OpenLinks,
+    devices: &[Device],
+    page: Option<HttpListener>,
+    figures: ProcessFigures,
+) -> Status
+    requires turns { 0 < arrivals.turns }
+    requires names { names_of devices.now ≡ map (λ r. r.device) opened_links.sockets.links.receivers.items }
+    ensures { LinkedTo D.lets_in D.Reader.input D.Writer.output ⟦<OpenGate as Gate>⟧.gives ⟦<OpenGate as Gate>⟧.told (option_map (λ p. p.port) page) arrivals.entry.door.now setup.entry.plan setup.entry.text.now
+        arrivals.entry.turns opened_links.sockets.links.receivers.items opened_links.sockets.sender.tried result }
+{
     match page {
         None => serve_with_companion(
             rt,

@@ -1,14 +1,10 @@
-use Rattle.std.proofs.Common.{◌≡◌, ap, ℕ, Bool, List, [], ◌∷◌, Option, None, Some, inr, refl}
-use Rattle.std.proofs.lemmas.List.Elements.{All-nil, All-cons, All-head}
+use Rattle.std.proofs.Common.{ℕ, Bool, List, Option, None, Some, inr, refl}
 use Rattle.click_cli.specs.declared.status.Status.TheVariants as status
 use Rattle.click_links.specs.Ends.{Attempt, Hearing}
 use Rattle.click_links.specs.declared.run.Receiver.{Receiver}
 use Rattle.click_streams.specs.Peers.{Input, Output}
 use Rattle.click_prog.specs.Linking.{LinkedTo}
 use Rattle.click_prog.specs.Running.{Planned}
-use Rattle.click_prog.specs.declared.serving.RunSetup.{RunSetup}
-use Rattle.click_prog.proofs.Paged.{page-quiet}
-use Rattle.click_prog.proofs.Quiet.{Idle, Quiet}
 use Rattle.click_prog.proofs.linking.serve_linked.Goals as goal
 
 -- there may be no memory to begin a run, with a page or without
@@ -20,12 +16,3 @@ no-memory lets_in input output gives told (Some at) door plan text turns receive
 
 pub returns-in_default : goal.returns-in_default
 returns-in_default g c = no-memory _ _ _ _ _ _ _ _ _ _ _ _
-
-pub serve_with_companion-requires-in-Some-clause-quiet : goal.serve_with_companion-requires-in-Some-clause-quiet
-serve_with_companion-requires-in-Some-clause-quiet g c κs within = λ old new done idle does.
-    All-cons Quiet new [] (page-quiet c.setup.inside.0.1.0.readonly c.in-Some.http_listener.port old new (All-head Idle old [] idle) does) (All-nil Quiet)
-
-pub returns-in-Some : goal.returns-in-Some
-returns-in-Some g c =
-    let readonly : c.setup.inside.0.1.0.readonly ≡ c.args.setup.plan.readonly = ap (λ (s : RunSetup). s.plan.readonly) c.setup.view_is in
-    rw c.in-Some.is (rw readonly at c.serve_with_companion-in-Some.ensures)
