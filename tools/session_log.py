@@ -244,7 +244,9 @@ def full() -> None:
         first.quit()
         lines = [it for it in router.lines()[1] if "outcome=done" not in it]
         came = len(lines)
-        same(["begins slot=1", "write=c.reset_counts bytes=0 outcome=failed cause=history-full"], lines[:2], f"{came} lines about a full book")
+        # Either of the two slots may accept the first client.
+        same(True, lines[0] in ("begins slot=1", "begins slot=2"), f"the slot of {lines[0]!r}")
+        same("write=c.reset_counts bytes=0 outcome=failed cause=history-full", lines[1], f"{came} lines about a full book")
         if not re.fullmatch(r"ends cause=quit reads=0 writes=\d+ checks=0 failed=1", lines[-1]):
             raise Wrong(f"the end of a session at a full book: {lines[-1]!r}")
 
