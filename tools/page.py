@@ -208,7 +208,7 @@ class Answer:
         return json.loads(self.body)
 
 
-def received(peer, seconds=SECONDS):
+def received(peer, seconds=3 * SECONDS):
     """Returns all bytes until the peer closes; raises Wrong if it does not within `seconds`."""
     came, ends = b"", time.monotonic() + seconds
     while True:
