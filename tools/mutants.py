@@ -22,7 +22,8 @@ among the others and names it, and a release needs a line for each crate.
 
 The tenth of the others consists of whole crates, in the order of the checksums of their names and
 sums. It is not a tenth of each crate, because a check loads the libraries below it once for all
-mutants of a round. The mutants in must-fail/ are not tried here: `rt ci` tries them.
+mutants of a round. A crate with more mutants than a tenth is not among them, because the project's
+CI has no time for them: --all tries its mutants, and so does a change after it was recorded. The mutants in must-fail/ are not tried here: `rt ci` tries them.
 
 An edit has a line 'file: src/lib.rt' and pairs of lines 'old: TEXT' and 'new: TEXT'. Each TEXT is
 one line, and the old one occurs exactly once in the file. An edit that changes more than bodies,
@@ -559,16 +560,19 @@ def chosen(sums, known):
     """Returns the crates whose mutants the gate tries, as two lists.
 
     The first has the crates that changed since they were recorded. The second has some of the
-    others, with at least a tenth of their mutants. The place of a crate in their order depends on
+    others, with about a tenth of their mutants: each crate, in their order, whose mutants fit into
+    what is left of the tenth, or else the first crate. The place of a crate in the order depends on
     its own checksum only, so that the name of a mutant elsewhere cannot choose which are tried.
     """
     changed = [it for it in sums if it in known and known[it] != sums[it]]
     others = [it for it in sums if it not in changed]
     others.sort(key=lambda it: hashlib.sha256(f"{it} {sums[it]}".encode()).hexdigest())
-    wanted, tenth = -(-sum(len(mutants_of(it)) for it in others) // SHARE), []
-    while sum(len(mutants_of(it)) for it in tenth) < wanted:
-        tenth.append(others[len(tenth)])
-    return changed, tenth
+    left, tenth = -(-sum(len(mutants_of(it)) for it in others) // SHARE), []
+    for it in others:
+        if len(mutants_of(it)) <= left:
+            tenth.append(it)
+            left -= len(mutants_of(it))
+    return changed, tenth or others[:1]
 
 
 def state_of(crate, sums, known):
