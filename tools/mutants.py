@@ -23,7 +23,7 @@ among the others and names it, and a release needs a line for each crate.
 The tenth of the others consists of whole crates, in the order of the checksums of their names and
 sums. It is not a tenth of each crate, because a check loads the libraries below it once for all
 mutants of a round. A crate with more mutants than a tenth is not among them, because the project's
-CI has no time for them: --all tries its mutants, and so does a change after it was recorded. The mutants in must-fail/ are not tried here: `rt ci` tries them.
+CI has no time for them. They are tried by --all, or after a change of a recorded crate. The mutants in must-fail/ are not tried here: `rt ci` tries them.
 
 An edit has a line 'file: src/lib.rt' and pairs of lines 'old: TEXT' and 'new: TEXT'. Each TEXT is
 one line, and the old one occurs exactly once in the file. An edit that changes more than bodies,
