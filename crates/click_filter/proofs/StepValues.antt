@@ -91,6 +91,44 @@ leads xs k s b h e f =
     e ∙ sym (get_or-reverse xs (length (reverse xs) - 1 - k) s within ∙ ap (λ (i : ℕ). get_or xs i s) place) in
     leads_in (reverse xs) k s b inside read f
 
+-- the targets of the step at an index are older
+pub record Older (k : ℕ) (s : Step) : Type 0 where
+  pub at_yes : s.yes < k + 257
+  pub at_no : s.no < k + 257
+
+older_in : (ys : List Step) (k : ℕ) (s : Step) → k < length ys → s ≡ get_or ys (length ys - 1 - k) s → forward ys ≡ true → Older k s
+older_in [] k s h e f = absurd (omega arith)
+older_in (y ∷ older) k s h e f =
+    elim (cases_lt k (length older)) [
+      | inl m ↦
+          let place : length (y ∷ older) - 1 - k ≡ suc (length older - 1 - k) = omega arith in
+          let e' : s ≡ get_or older (length older - 1 - k) s = e ∙ ap (λ (i : ℕ). get_or (y ∷ older) i s) place in
+          older_in older k s m e' (sound y older f).rest
+      | inr m ↦
+          let last : k ≡ length older = omega arith in
+          let place : length (y ∷ older) - 1 - k ≡ 0 = omega arith in
+          let e' : s ≡ y = e ∙ ap (λ (i : ℕ). get_or (y ∷ older) i s) place in
+          let q = sound y older f in
+          subst (λ (j : ℕ). Older j s) (sym last) (subst (λ (x : Step). Older (length older) x) (sym e') (record { at_yes = q.at_yes; at_no = q.at_no }))
+    ]
+
+pub older_targets : (xs : List Step) (k : ℕ) (s : Step) → k < length xs → s ≡ get_or xs k s → forward (reverse xs) ≡ true → Older k s
+older_targets xs k s h e f =
+    let len = length-reverse xs in
+    let inside : k < length (reverse xs) = omega arith in
+    let place : length xs - 1 - (length (reverse xs) - 1 - k) ≡ k = omega arith in
+    let within : length (reverse xs) - 1 - k < length xs = omega arith in
+    let read : s ≡ get_or (reverse xs) (length (reverse xs) - 1 - k) s =
+    e ∙ sym (get_or-reverse xs (length (reverse xs) - 1 - k) s within ∙ ap (λ (i : ℕ). get_or xs i s) place) in
+    older_in (reverse xs) k s inside read f
+
+-- the step at a target makes this test, which has a known outcome
+pub past_test : (xs : List Step) (k at : ℕ) (s : Step) (outcome : Bool) (b : List ℕ) → at ≡ k + 257 → k < length xs → s ≡ get_or xs k s → forward (reverse xs) ≡ true → holds s.test b ≡ outcome
+    → value (reverse xs) (cond outcome s.yes s.no) b ≡ value (reverse xs) at b
+past_test xs k at s outcome b a h e f o =
+    let l = leads xs k s b h e f in
+    ap (λ (c : Bool). value (reverse xs) (cond c s.yes s.no) b) (sym o) ∙ sym l.value_next ∙ ap (λ (n : ℕ). value (reverse xs) n b) (sym a)
+
 -- a target that is no step stands for itself
 pub value_action : (ys : List Step) (at : ℕ) (b : List ℕ) → at < 257 → value ys at b ≡ at
 value_action [] at b h = refl
@@ -133,11 +171,6 @@ value_cond ys false m n b = refl
 pub leaf_value : (xs ys : List Step) (s : Step) (at : ℕ) (b : List ℕ) → ys ≡ xs ++ s ∷ [] → at ≡ length xs + 257
     → value (reverse ys) at b ≡ cond (holds s.test b) (value (reverse xs) s.yes b) (value (reverse xs) s.no b)
 leaf_value xs ys s at b e h = pushed_value xs ys s at b e h ∙ value_cond (reverse xs) (holds s.test b) s.yes s.no b
-
--- what holds of the steps with one more and without it holds after a push
-pub either_way : {E : Type 0} (r : Result ℕ E) (Q R : Type 0) → IfOk r (λ at. Q) → IfErr r (λ e. R) → Q ⊎ R
-either_way (Ok at) Q R h k = inl h
-either_way (Err e) Q R h k = inr k
 
 pub cond_not : (c : Bool) (m n : ℕ) → cond c n m ≡ cond (not c) m n
 cond_not true m n = refl

@@ -3,11 +3,13 @@
 ghost use Rattle.std.specs.Prelude.{◌≡◌, ℕ, ◌+◌, ◌<◌, ◌≤◌, List, ◌++◌, ◌∷◌, [], length, reverse, true, cond, IfOk, IfErr};
 ghost use Rattle.click_filter.specs.declared.pattern.Node.{Node};
 ghost use Rattle.click_filter.specs.declared.building.ProgramError.TheVariants.{NoMemory};
+ghost use Rattle.click_filter.specs.Tests.{holds};
 ghost use Rattle.click_filter.specs.Trees.{Tree, truth, tests, flat};
 ghost use Rattle.click_filter.specs.kept.Steps.{value, forward};
 
 use crate::pattern::Node;
 use crate::step::Step;
+use crate::test::Test;
 use std::alloc::{AllocError, AllocFailed};
 
 /// The maximum number of tests in a program.
@@ -59,6 +61,48 @@ fn push_step(steps: &mut Vec<Step>, step: Step) -> Result<u16, ProgramError>
     Ok(FIRST_STEP + count as u16)
 }
 
+/// Returns the target to which a packet comes from this one, if the test has this outcome for it.
+///
+/// It is another one if the step at the target makes the same test by `is_same`.
+fn past(steps: &[Step], test: Test, outcome: bool, target: u16) -> u16
+    requires forward { forward (reverse steps.now) ≡ true }
+    requires target { target < length steps.now + 257 }
+    ensures same { (b : List ℕ) → holds test b ≡ outcome → value (reverse steps.now) result b ≡ value (reverse steps.now) target b }
+    ensures within { result < length steps.now + 257 }
+{
+    if target < FIRST_STEP {
+        return target;
+    }
+    let step = steps[usize::from(target - FIRST_STEP)];
+    if !step.test.is_same(test) {
+        return target;
+    }
+    if outcome { step.yes } else { step.no }
+}
+
+/// Appends the step of a test, and returns its target. `yes` and `no` are the targets for both
+/// outcomes. On an error the steps are unchanged.
+///
+/// perf: rules in a row often begin with the same test. A packet for which it fails is led past all
+/// of them, as in libpcap.
+fn push_test(steps: &mut Vec<Step>, test: Test, yes: u16, no: u16) -> Result<u16, ProgramError>
+    requires few { length steps.old.items ≤ 4096 }
+    requires forward { forward (reverse steps.old.items) ≡ true }
+    requires yes { yes < length steps.old.items + 257 }
+    requires no { no < length steps.old.items + 257 }
+    ensures ok { IfOk result (λ at. (length steps.new.items ≡ length steps.old.items + 1) × (at ≡ length steps.old.items + 257)
+        × ((b : List ℕ) → value (reverse steps.new.items) at b ≡ cond (holds test b) (value (reverse steps.old.items) yes b) (value (reverse steps.old.items) no b))) }
+    ensures full { IfErr result (λ e. e ≡ ProgramError.TooManyTests → 4096 ≤ length steps.old.items) }
+    ensures few { length steps.new.items ≤ 4096 }
+    ensures forward { forward (reverse steps.new.items) ≡ true }
+    ensures kept { (at : ℕ) (b : List ℕ) → at < length steps.old.items + 257 → value (reverse steps.new.items) at b ≡ value (reverse steps.old.items) at b }
+    ensures more { length steps.old.items ≤ length steps.new.items }
+{
+    let yes = past(steps.as_slice(), test, true, yes);
+    let no = past(steps.as_slice(), test, false, no);
+    push_step(steps, Step { test, yes, no })
+}
+
 /// Appends the steps of the pattern whose nodes end the list, and removes these nodes. Returns the
 /// target at which the pattern begins. `yes` and `no` are the targets for both outcomes.
 ///
@@ -91,7 +135,7 @@ pub fn add_part(
             return Ok(no);
         };
         match node {
-            Node::Test(test) => return push_step(steps, Step { test, yes, no }),
+            Node::Test(test) => return push_test(steps, test, yes, no),
             Node::Not => {
                 let other = yes;
                 yes = no;

@@ -1,6 +1,6 @@
 //! Tests of IP packets, and whether they hold.
 
-ghost use Rattle.std.specs.Prelude.{◌≡◌};
+ghost use Rattle.std.specs.Prelude.{◌≡◌, true};
 ghost use Rattle.click_filter.specs.Tests.{relates, compares, ends, joined, bit, has_bit, is_in, field, holds};
 
 use crate::parts::{
@@ -88,6 +88,21 @@ pub enum Test {
     },
     Fragment,
     Unfragmented,
+}
+
+impl Direction {
+    /// Returns true only if the other direction is the same.
+    fn is_same(self, other: Direction) -> bool
+        ensures { result ≡ true → self ≡ other }
+    {
+        match (self, other) {
+            (Direction::Source, Direction::Source) => true,
+            (Direction::Destination, Direction::Destination) => true,
+            (Direction::Either, Direction::Either) => true,
+            (Direction::Both, Direction::Both) => true,
+            _ => false,
+        }
+    }
 }
 
 impl Relation {
@@ -204,6 +219,31 @@ fn is_in(found: Option<u32>, address: u32, mask: u32) -> bool
 }
 
 impl Test {
+    /// Returns whether the other test is the same, for tests of addresses, protocols and fragments.
+    /// For all others it returns false.
+    pub(crate) fn is_same(self, other: Test) -> bool
+        ensures { result ≡ true → self ≡ other }
+    {
+        match (self, other) {
+            (
+                Test::Net {
+                    direction: own,
+                    address,
+                    mask,
+                },
+                Test::Net {
+                    direction,
+                    address: other_address,
+                    mask: other_mask,
+                },
+            ) => own.is_same(direction) && address == other_address && mask == other_mask,
+            (Test::Protocol(own), Test::Protocol(number)) => own == number,
+            (Test::Fragment, Test::Fragment) => true,
+            (Test::Unfragmented, Test::Unfragmented) => true,
+            _ => false,
+        }
+    }
+
     /// Returns whether the test holds for a packet, whose first byte is the first of its IP header.
     #[inline(always)]
     pub(crate) fn holds(&self, packet: &[u8]) -> bool

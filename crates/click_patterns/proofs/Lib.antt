@@ -3,3 +3,4 @@ pub mod OneTree
 pub mod ChainParts
 pub mod Negations
 pub mod OpenLimits
+pub mod RuleReading

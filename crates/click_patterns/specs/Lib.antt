@@ -5,3 +5,5 @@ pub mod Tokens
 pub mod Grammar
 pub mod Nesting
 pub mod Arguments
+pub mod RuleLists
+pub mod kept

@@ -1,4 +1,4 @@
--- The words of an argument (Click manual, "Configuration strings").
+-- The words of an argument, and its bytes without comments (Click manual, "Configuration strings").
 use Rattle.std.specs.Prelude.{◌≡◌, ℕ, List, [], ◌∷◌, Bool, true, false}
 use Rattle.click_text.specs.declared.items.ItemKind.{ItemKind}
 use Rattle.click_text.specs.declared.items.ItemKind.TheVariants as kind
@@ -36,3 +36,9 @@ pub record AreWords (text : List ℕ) (words : List (List ℕ)) : Type 0 where
   pub items : List Item
   pub read : AreItems text items
   pub cuts : words ≡ words_of items
+
+-- `bytes` are the bytes of an argument with a space for each comment
+pub record IsWithoutComments (text : List ℕ) (bytes : List ℕ) : Type 0 where
+  pub items : List Item
+  pub read : AreItems text items
+  pub spaces : bytes ≡ bytes_of (spaced items)

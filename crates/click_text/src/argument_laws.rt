@@ -5,7 +5,7 @@ ghost use Rattle.click_text.specs.declared.syntax.Span.{Span};
 ghost use Rattle.click_text.specs.Items.{Item, AreItems, bytes_of};
 ghost use Rattle.click_text.specs.Arguments.{AreArguments, SpansInOrder, IsTextOf};
 ghost use Rattle.click_text.specs.StringText.{IsStringText, leaves_open};
-ghost use Rattle.click_text.specs.Words.{AreWords};
+ghost use Rattle.click_text.specs.Words.{AreWords, IsWithoutComments};
 ghost use Rattle.click_text.specs.Unquote.{StandsFor};
 
 /// Every text has exactly one list of items, and their bytes are the text.
@@ -23,6 +23,12 @@ pub fn arguments_once()
 /// An argument has at most one list of words.
 pub fn words_once()
     ensures { (text : List ℕ) (words others : List (List ℕ)) → AreWords text words → AreWords text others → words ≡ others }
+{}
+
+/// An argument has one text without comments.
+pub fn without_comments_once()
+    ensures some { (text : List ℕ) → (bytes : List ℕ) × IsWithoutComments text bytes }
+    ensures one { (text bytes others : List ℕ) → IsWithoutComments text bytes → IsWithoutComments text others → bytes ≡ others }
 {}
 
 /// An argument stands for one result only: certain bytes, or none for bad quoting.

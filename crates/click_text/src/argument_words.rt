@@ -1,8 +1,8 @@
-//! The words of an argument.
+//! The words of an argument, and its bytes without comments.
 
 ghost use Rattle.std.specs.Prelude.{◌≡◌, ◌++◌, [], IfOk, IfErr, OnOk};
 ghost use Rattle.click_text.specs.Faults.{no_memory};
-ghost use Rattle.click_text.specs.Words.{spaced_as, word_before, AreWords};
+ghost use Rattle.click_text.specs.Words.{spaced_as, word_before, AreWords, IsWithoutComments};
 
 use crate::items::{ItemKind, first_item};
 use crate::syntax::TextFault;
@@ -63,4 +63,30 @@ pub fn words(alloc: Global, argument: &[u8]) -> Result<Vec<Sequence<u8>>, TextFa
     ensures err { IfErr result (λ f. f ≡ no_memory) }
 {
     Ok(words_of(alloc, argument)?)
+}
+
+/// Does what `without_comments` does, with `AllocError` as its error.
+fn spaced_bytes(alloc: Global, argument: &[u8]) -> Result<Vec<u8>, AllocError>
+    ensures { IfOk result (λ bytes. IsWithoutComments argument.now bytes.items) }
+{
+    let mut bytes = Vec::new(alloc);
+    let mut at = 0;
+    'items: while at < argument.len() {
+        let rest = &argument[at..];
+        let (kind, len) = first_item(rest);
+        bytes.extend_from_slice(spaced(kind, &rest[..len]))?;
+        at += len;
+    }
+    Ok(bytes)
+}
+
+/// Returns the bytes of an argument with a space for each comment (Click manual, "Configuration
+/// strings"). Quoted text is not changed.
+pub fn without_comments(alloc: Global, argument: &[u8]) -> Result<Sequence<u8>, TextFault>
+    ensures ok { IfOk result (λ bytes. IsWithoutComments argument.now bytes) }
+    // The only error is out of memory.
+    ensures err { IfErr result (λ f. f ≡ no_memory) }
+{
+    let bytes = spaced_bytes(alloc, argument)?;
+    Ok(Sequence::of(bytes))
 }

@@ -20,7 +20,7 @@ mod tokens;
 
 pub use argument_bytes::unquote;
 pub use argument_spans::arguments;
-pub use argument_words::words;
+pub use argument_words::{without_comments, words};
 pub use items::{ItemKind, first_item};
 use lexer::scan;
 use parser::config_of;

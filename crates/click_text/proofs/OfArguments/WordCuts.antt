@@ -1,4 +1,4 @@
--- The words of an argument, read from the front.
+-- The words of an argument, and its bytes without comments, read from the front.
 use Rattle.std.proofs.Common.{◌≡◌, ℕ, ◌+◌, ◌-◌, ◌≤◌, List, [], ◌∷◌, ◌++◌, length, take, drop, true, false, eqb, refl, sym, ◌∙◌, arith, inl, inr, append_assoc}
 use Rattle.std.specs.Prelude.{if◌then◌else◌, ◌&&◌}
 use Rattle.std.proofs.lemmas.Bool.{cases_Bool}
@@ -6,7 +6,7 @@ use Rattle.std.proofs.lemmas.List.{append-nil}
 use Rattle.click_text.specs.declared.items.ItemKind.{ItemKind}
 use Rattle.click_text.specs.declared.items.ItemKind.TheVariants as kind
 use Rattle.click_text.specs.Items.{Item, item, LongestItem, bytes_of, blank_kind, parentheses_after, parted}
-use Rattle.click_text.specs.Words.{spaced_as, spaced, is_space, word_before, words_among, words_of, AreWords}
+use Rattle.click_text.specs.Words.{spaced_as, spaced, is_space, word_before, words_among, words_of, AreWords, IsWithoutComments}
 use Rattle.click_text.proofs.OfItems.OneItemList.{IsDone, done_more, done_all, none_done, bytes_at, bytes_of-append, item_some}
 use Rattle.click_text.proofs.OfArguments.ArgumentCuts.{all_put, all_put-put, nothing_put, depth_rises}
 
@@ -105,3 +105,26 @@ words_all text at depth words word h c = record {
   read = done_all text at c.done h c.is_done;
   cuts = let g = c.goes_on [] in let i : rest_of 0 [] (spaced c.done) ≡ words ++ word_before word [] = rw append-nil at g in sym (words_are c.done ∙ i);
 }
+
+-- The invariant of the loop: `bytes` are those of the items before offset `at`, with a space for
+-- each comment.
+pub record Spacing (text : List ℕ) (at : ℕ) (bytes : List ℕ) : Type 0 where
+  pub done : List Item
+  pub is_done : IsDone text at done
+  pub spaces : bytes ≡ bytes_of (spaced done)
+
+pub spacing_none : (text : List ℕ) → Spacing text 0 []
+spacing_none text = record { done = []; is_done = none_done text; spaces = refl }
+
+pub spacing_more : (text : List ℕ) (at : ℕ) (bytes : List ℕ) (k : ItemKind) (n : ℕ) → LongestItem (take (length text - at) (drop at text)) k n →
+    Spacing text at bytes → Spacing text (at + n) (bytes ++ (spaced_as k (bytes_at text at n)).bytes)
+spacing_more text at bytes k n l c =
+    let i = item k (bytes_at text at n) in
+    record {
+      done = c.done ++ i ∷ [];
+      is_done = done_more text at c.done k n l c.is_done;
+      spaces = rw (spaced-append c.done (i ∷ []), bytes_of-append, append-nil, c.spaces) refl;
+    }
+
+pub spacing_all : (text : List ℕ) (at : ℕ) (bytes : List ℕ) → length text ≤ at → Spacing text at bytes → IsWithoutComments text bytes
+spacing_all text at bytes h c = record { items = c.done; read = done_all text at c.done h c.is_done; spaces = c.spaces }

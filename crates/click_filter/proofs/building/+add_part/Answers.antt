@@ -6,7 +6,7 @@ use Rattle.click_filter.specs.declared.step.Step.{Step}
 use Rattle.click_filter.specs.Trees.{truth, flat}
 use Rattle.click_filter.specs.kept.Steps.{value, forward}
 use Rattle.click_filter.proofs.PatternNodes.{at_test, at_not, at_and, at_or, some_node}
-use Rattle.click_filter.proofs.StepValues.{leaf_value, either_way, pushed_forward, cond_not, cond_and, cond_or}
+use Rattle.click_filter.proofs.StepValues.{cond_not, cond_and, cond_or}
 use Rattle.click_filter.proofs.building.+add_part.Goals as goal
 
 pub returns-in_default-clause-part : goal.returns-in_default-clause-part
@@ -23,13 +23,13 @@ pub returns-in-Test-clause-part : goal.returns-in-Test-clause-part
 returns-in-Test-clause-part t c u front e =
     let l = c.parts.invariant.left u front e in
     let q = at_test l.0 front c.pop.new.self.items c.in-Test.test (sym l.1 ∙ c.in-Some.ensures.items ∙ ap (λ (m : Node). c.pop.new.self.items ++ m ∷ []) c.in-Test.is) in
-    IfOk-weaker c.push_step.result _ _ (λ at h. (
+    IfOk-weaker c.push_test.result _ _ (λ at h. (
       q.0,
-      (let k = l.2 in let j = q.2 in let i = ap length h.0 in omega (arith, length-append {A = Step})),
-      λ b. leaf_value c.parts.steps.items c.push_step.new.steps.items _ at b h.0 h.1
+      (let k = l.2 in let j = q.2 in let i = h.0 in omega arith),
+      λ b. h.2 b
           ∙ ap (λ (x : Bool). cond x (value (reverse c.parts.steps.items) c.parts.yes b) (value (reverse c.parts.steps.items) c.parts.no b)) (sym (q.1 b)) ∙ l.3 b,
     ))
-    c.push_step.ensures.ok
+    c.push_test.ensures.ok
 
 pub returns-in-Test-clause-full : goal.returns-in-Test-clause-full
 returns-in-Test-clause-full t c u front e =
@@ -37,17 +37,7 @@ returns-in-Test-clause-full t c u front e =
     let q = at_test l.0 front c.pop.new.self.items c.in-Test.test (sym l.1 ∙ c.in-Some.ensures.items ∙ ap (λ (m : Node). c.pop.new.self.items ++ m ∷ []) c.in-Test.is) in
     let k = l.2 in
     let j = q.2 in
-    IfErr-weaker c.push_step.result _ _ (λ x h e'. let f = h e' in omega arith) c.push_step.ensures.full
-
-pub returns-in-Test-clause-forward : goal.returns-in-Test-clause-forward
-returns-in-Test-clause-forward t c =
-    let xs = c.parts.steps.items in
-    let ys = c.push_step.new.steps.items in
-    let s : Step = record { test = c.in-Test.test; yes = c.parts.yes; no = c.parts.no } in
-    elim (either_way c.push_step.result (ys ≡ xs ++ s ∷ []) (ys ≡ xs) (IfOk-weaker c.push_step.result _ _ (λ at h. h.0) c.push_step.ensures.ok) c.push_step.ensures.err) [
-      | inl e ↦ pushed_forward xs ys s e c.parts.invariant.forward c.parts.invariant.at_yes c.parts.invariant.at_no
-      | inr e ↦ subst (λ (zs : List Step). forward (reverse zs) ≡ true) (sym e) c.parts.invariant.forward
-    ]
+    IfErr-weaker c.push_test.result _ _ (λ x h e'. let f = h e' in omega arith) c.push_test.ensures.full
 
 pub parts-preserved-in-Not : goal.parts-preserved-in-Not
 parts-preserved-in-Not t c = record {
