@@ -39,7 +39,7 @@ from trying import GREETING, TOP, Ran, begun, bytes_of, command_of, fail, lines_
 
 # The descriptor to which a refused allocation is noted, and the maximum number of allocations of a
 # run.
-NOTES, MOST = 9, 5000
+NOTES, MOST = 9, 6000
 # The status of a run that is out of memory.
 NO_MEMORY = 3
 OUT_OF_MEMORY = b"520 Out of memory\r\n"

@@ -82,7 +82,7 @@ def joined(kind: str, lines: list[str]) -> list[str]:
     ends = (at for at, line in enumerate(lines) if kind == "calls" and line.startswith("> "))
     end = next(ends, len(lines))
     calls = "\n".join(lines[end:]).replace(",\n", ",")
-    return [" ".join(lines[:end]), *calls.splitlines()]
+    return [" ".join(line.strip() for line in lines[:end]), *calls.splitlines()]
 
 
 def block(found: re.Match) -> str:

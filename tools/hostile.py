@@ -47,9 +47,9 @@ def same(wanted, came, what):
         raise Wrong(f"{what}: at byte {at} of {len(wanted)}: wanted {wanted[at:at + 60]!r}, came {came[at:at + 60]!r}")
 
 
-def until(holds, what):
-    """Waits until `holds` returns true; raises Wrong if it takes too long."""
-    ends = time.monotonic() + SECONDS
+def until(holds, what, seconds=SECONDS):
+    """Waits until `holds` returns true; raises Wrong if it takes more than these seconds."""
+    ends = time.monotonic() + seconds
     while not holds():
         if time.monotonic() > ends:
             raise Wrong(what)

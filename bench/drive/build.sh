@@ -10,7 +10,7 @@ here="$(cd "$(dirname "$0")" && pwd)"
 . "$here/../../tools/lib/built.sh"
 folder=$(mkdir -p "$1" && cd "$1" && pwd)
 crate=$folder/crates/click_drive
-uses='click_base click_text click_packet click_rings click_classes click_expand click_ports click_engine click_handlers click_router click_desk'
+uses='click_base click_text click_packet click_rings click_filter click_patterns click_classes click_expand click_ports click_engine click_handlers click_router click_desk'
 
 # library NAME: prints the folder of a library.
 library() { echo "$top/crates/$1/out/rlib"; }

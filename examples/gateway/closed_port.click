@@ -1,8 +1,17 @@
-// The gateway without TCP to port 8000, which is dropped and counted. 9/06 is TCP, and 22/1f40 is
-// the port of a packet whose header has 20 bytes (0/45).
-FromDevice(eth0) -> good :: CheckIPHeader -> k :: Classifier(0/45 9/06 22/1f40, -);
-FromDevice(eth1) -> good;
-k -> dropped :: Counter -> Discard;
-k [1] -> GetIPAddress(16) -> rt :: StaticIPLookup(10.1.0.0/16 0, 10.2.0.0/16 1);
+// The firewall with a stricter rule: no host inside begins a connection any more. The connections that
+// are open stay so, because their packets have the flag ACK.
+require(gateway);
+FromDevice(eth0) -> CheckIPHeader -> inside :: IPFilter(
+  allow src 10.1.0.0/16 and tcp dst port 80 and tcp opt ack,
+  allow src 10.1.0.0/16 and icmp type echo,
+  1 all);
+FromDevice(eth1) -> CheckIPHeader -> outside :: IPFilter(
+  allow src 10.2.0.0/16 and tcp src port 80 and tcp opt ack,
+  allow src 10.2.0.0/16 and icmp type echo-reply,
+  1 all);
+inside -> good :: GetIPAddress(16) -> rt :: StaticIPLookup(10.1.0.0/16 0, 10.2.0.0/16 1);
+outside -> good;
+inside [1] -> kept_in :: Counter -> Discard;
+outside [1] -> kept_out :: Counter -> Discard;
 rt -> DecIPTTL -> c0 :: Counter -> q0 :: Queue(1000) -> ToDevice(eth0);
 rt [1] -> DecIPTTL -> c1 :: Counter -> q1 :: Queue(1000) -> ToDevice(eth1);

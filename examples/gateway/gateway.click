@@ -1,6 +1,19 @@
-// Two networks of bare IPv4 packets: 10.1.0.0/16 at eth0 and 10.2.0.0/16 at eth1. A packet leaves
-// with its time to live decremented. All other packets are dropped.
-FromDevice(eth0) -> good :: CheckIPHeader -> GetIPAddress(16) -> rt :: StaticIPLookup(10.1.0.0/16 0, 10.2.0.0/16 1);
-FromDevice(eth1) -> good;
+// A firewall between two networks of bare IPv4 packets: the inside, 10.1.0.0/16 at eth0, and the
+// outside, 10.2.0.0/16 at eth1. Hosts inside may browse and ping. From outside come only replies: the
+// first packet of a TCP connection has no flag ACK. Packets that the rules keep in or keep out are
+// counted and dropped. The others leave with their time to live decremented.
+require(gateway);
+FromDevice(eth0) -> CheckIPHeader -> inside :: IPFilter(
+  allow src 10.1.0.0/16 and tcp dst port 80,
+  allow src 10.1.0.0/16 and icmp type echo,
+  1 all);
+FromDevice(eth1) -> CheckIPHeader -> outside :: IPFilter(
+  allow src 10.2.0.0/16 and tcp src port 80 and tcp opt ack,
+  allow src 10.2.0.0/16 and icmp type echo-reply,
+  1 all);
+inside -> good :: GetIPAddress(16) -> rt :: StaticIPLookup(10.1.0.0/16 0, 10.2.0.0/16 1);
+outside -> good;
+inside [1] -> kept_in :: Counter -> Discard;
+outside [1] -> kept_out :: Counter -> Discard;
 rt -> DecIPTTL -> c0 :: Counter -> q0 :: Queue(200) -> ToDevice(eth0);
 rt [1] -> DecIPTTL -> c1 :: Counter -> q1 :: Queue(200) -> ToDevice(eth1);

@@ -50,6 +50,8 @@ by_name class.IPMirror k = absurd (cc k)
 by_name class.SetIPChecksum k = absurd (cc k)
 by_name class.StripIPHeader k = absurd (cc k)
 by_name class.UDPIPEncap k = absurd (cc k)
+by_name class.IPFilter k = absurd (cc k)
+by_name class.IPClassifier k = absurd (cc k)
 by_name _ k = refl
 
 pub gateway-by_name : (c : Class) → is_gateway c ≡ true → gateway_class_of (name c) ≡ Some c
@@ -64,6 +66,8 @@ gateway-by_name class.IPMirror k = refl
 gateway-by_name class.SetIPChecksum k = refl
 gateway-by_name class.StripIPHeader k = refl
 gateway-by_name class.UDPIPEncap k = refl
+gateway-by_name class.IPFilter k = refl
+gateway-by_name class.IPClassifier k = refl
 gateway-by_name _ k = absurd (cc k)
 
 pub named : (c : Class) (text : List ℕ) → is_gateway c ≡ false → name c ≡ text → class_of text ≡ Some c

@@ -13,11 +13,11 @@ classes =
     class.GetIPAddress ∷ class.StaticIPLookup ∷ class.CheckIPHeader ∷ class.DecIPTTL ∷ class.EtherEncap ∷ class.InfiniteSource ∷
     class.FromDevice ∷ class.ToDevice ∷ []
 
--- the ten classes of the gateway package, which are visible only after `require(gateway);`
+-- the twelve classes of the gateway package, which are visible only after `require(gateway);`
 abbrev pub gateway_classes : List Class
 gateway_classes =
     class.ARPResponder ∷ class.ARPQuerier ∷ class.ICMPError ∷ class.ICMPPingResponder ∷ class.HostEtherFilter ∷ class.EtherMirror ∷
-    class.IPMirror ∷ class.SetIPChecksum ∷ class.StripIPHeader ∷ class.UDPIPEncap ∷ []
+    class.IPMirror ∷ class.SetIPChecksum ∷ class.StripIPHeader ∷ class.UDPIPEncap ∷ class.IPFilter ∷ class.IPClassifier ∷ []
 
 -- whether a class is of the gateway package
 abbrev pub is_gateway : Class → Bool
@@ -31,6 +31,8 @@ is_gateway class.IPMirror = true
 is_gateway class.SetIPChecksum = true
 is_gateway class.StripIPHeader = true
 is_gateway class.UDPIPEncap = true
+is_gateway class.IPFilter = true
+is_gateway class.IPClassifier = true
 is_gateway _ = false
 
 -- the name that stands for the class in configurations
@@ -75,6 +77,8 @@ name class.IPMirror = codes "IPMirror"
 name class.SetIPChecksum = codes "SetIPChecksum"
 name class.StripIPHeader = codes "StripIPHeader"
 name class.UDPIPEncap = codes "UDPIPEncap"
+name class.IPFilter = codes "IPFilter"
+name class.IPClassifier = codes "IPClassifier"
 
 -- the class with this name, if it is one of the thirty that are always visible
 unfoldable pub class_of : List ℕ → Option Class

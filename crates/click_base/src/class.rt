@@ -47,6 +47,8 @@ pub enum Class {
     SetIPChecksum,
     StripIPHeader,
     UDPIPEncap,
+    IPFilter,
+    IPClassifier,
 }
 
 /// The thirty classes that are always visible, in the order of Click's element reference.
@@ -84,7 +86,7 @@ pub const CLASSES: [Class; 30] = [
 ];
 
 /// The classes of the gateway package. They are visible only after `require(gateway);`.
-pub const GATEWAY_CLASSES: [Class; 10] = [
+pub const GATEWAY_CLASSES: [Class; 12] = [
     Class::ARPResponder,
     Class::ARPQuerier,
     Class::ICMPError,
@@ -95,6 +97,8 @@ pub const GATEWAY_CLASSES: [Class; 10] = [
     Class::SetIPChecksum,
     Class::StripIPHeader,
     Class::UDPIPEncap,
+    Class::IPFilter,
+    Class::IPClassifier,
 ];
 
 impl Class {
@@ -143,6 +147,8 @@ impl Class {
             Class::SetIPChecksum => b"SetIPChecksum",
             Class::StripIPHeader => b"StripIPHeader",
             Class::UDPIPEncap => b"UDPIPEncap",
+            Class::IPFilter => b"IPFilter",
+            Class::IPClassifier => b"IPClassifier",
         }
     }
 }

@@ -4,6 +4,9 @@ use Rattle.std.specs.Prelude.{ℕ, ◌+◌, ◌-◌, ◌^◌, ◌==◌, nat_le, 
 use Rattle.std.specs.Str.{bytes_eq}
 use Rattle.click_packet.specs.Header.{header_good, ttl, with_ttl}
 use Rattle.click_packet.specs.Packet.{Packet}
+use Rattle.click_filter.specs.declared.rule.Action.{Action}
+use Rattle.click_filter.specs.declared.rule.Action.TheVariants as action
+use Rattle.click_patterns.specs.RuleLists.{decided}
 use Rattle.click_gateway.specs.Addresses.{is_host, ethernet_of_group}
 use Rattle.click_gateway.specs.Arp.{Sender, sender, request_for, ether_header}
 use Rattle.click_classes.specs.Gateway.{arp_reply, ping_reply, error_report, host_verdict, frame_mirror, datagram_mirror, checksum_set, header_stripped, udp_encapsulated}
@@ -266,6 +269,11 @@ abbrev pub learnt : Querier → Packet → Option Sender → PushEffect
 learnt q p None = to_none (state.ARPQuerier q) p
 learnt q p (Some who) = learnt_of q p who (place_of q.table who.ip)
 
+-- the output to which rules send a packet, if they do not drop it
+abbrev pub output_of : Action → Option ℕ
+output_of (action.Output output) = Some output
+output_of action.Drop = None
+
 unfoldable pub act : ℕ → State → ℕ → Packet → PushEffect
 act outputs (state.Queue q drops highest) input p = queued q drops highest p
 act outputs (state.FrontDropQueue q drops highest) input p = front_queued q drops highest p
@@ -275,6 +283,8 @@ act outputs (state.Tee n) input p = sent (state.Tee n) p 0 outputs
 act outputs (state.Suppressor active) input p = if is_active active input then sent (state.Suppressor active) p input 1 else to_none (state.Suppressor active) p
 act outputs (state.Classifier patterns) input p = switched (state.Classifier patterns) (classified patterns p.bytes) p
 act outputs (state.StaticIPLookup entries) input p = routed (state.StaticIPLookup entries) (route entries p.destination) p
+act outputs (state.IPFilter rules) input p = switched (state.IPFilter rules) (output_of (decided rules p.bytes)) p
+act outputs (state.IPClassifier rules) input p = switched (state.IPClassifier rules) (output_of (decided rules p.bytes)) p
 act outputs (state.ARPQuerier q) input p =
     if input == 0 then taken_in outputs (counting q) p else learnt q p (sender p.bytes)
 -- all other classes pass the packet or drop it

@@ -1,6 +1,6 @@
 -- The result of `make`: the first state of an element, or the first fault of its arguments. Their
 -- number is tested first, and then the arguments in order (Click element reference).
-use Rattle.std.specs.Prelude.{ℕ, Bool, ◌||◌, take, codes, ◌-◌, ◌/◌, ◌%◌, ◌^◌, ◌==◌, List, [], ◌∷◌, ◌++◌, length, true, ◌&&◌, nat_le, slice_get, slice_index_or, replicate, Option, Some, None, Result, Ok, Err, if◌then◌else◌, ◌≡◌, map, MatchBool}
+use Rattle.std.specs.Prelude.{ℕ, ◌<◌, ◌≤◌, Bool, ◌||◌, take, codes, ◌-◌, ◌/◌, ◌%◌, ◌^◌, ◌==◌, List, [], ◌∷◌, ◌++◌, length, true, ◌&&◌, nat_le, slice_get, slice_index_or, replicate, Option, Some, None, Result, Ok, Err, if◌then◌else◌, ◌≡◌, map, MatchBool}
 use Rattle.click_classes.specs.declared.fault.ArgFault.{ArgFault}
 use Rattle.click_classes.specs.declared.fault.ArgFault.TheVariants as fault
 use Rattle.click_classes.specs.declared.state.State.{State}
@@ -13,13 +13,18 @@ use Rattle.click_classes.specs.Values.{number_in, number_or_minus_one, some, tru
 use Rattle.click_classes.specs.declared.neighbours.Querier.{Querier}
 use Rattle.click_classes.specs.declared.values.report.Report.{Report}
 use Rattle.click_classes.specs.declared.values.station.Station.{Station}
+use Rattle.click_filter.specs.Rules.{Ruling, all_tests}
+use Rattle.click_patterns.specs.declared.rules.FlatRule.{FlatRule}
+use Rattle.click_patterns.specs.declared.rules.RuleForm.{RuleForm}
+use Rattle.click_patterns.specs.declared.rules.RuleForm.TheVariants as form
+use Rattle.click_patterns.specs.RuleLists.{AreSpelled, flat_rule}
 use Rattle.std.specs.Str.{bytes_eq}
 use Rattle.std.specs.List.{AllZip}
 use Rattle.click_text.specs.declared.syntax.Span.{Span}
 use Rattle.click_text.specs.Arguments.{AreArguments}
 use Rattle.click_text.specs.Spans.{bytes_at}
 use Rattle.click_text.specs.Unquote.{StandsFor}
-use Rattle.click_text.specs.Words.{AreWords}
+use Rattle.click_text.specs.Words.{AreWords, IsWithoutComments}
 use Rattle.click_base.specs.declared.class.Class.{Class}
 use Rattle.click_base.specs.declared.class.Class.TheVariants as class
 
@@ -224,6 +229,21 @@ ByFirst most state_of args r = MatchBool (nat_le 0 (length args) && nat_le (leng
     ((first : Option (Option (List ℕ))) × FirstStandsFor (slice_get args 0) first × (r ≡ state_of first args))
     (r ≡ Err fault.ArgumentCount)
 
+-- the rules that texts spell, or a fault if they spell none or have more than 4,096 tests
+abbrev pub AreRuled : RuleForm → List (List ℕ) → Result (List FlatRule) ArgFault → Type 0
+AreRuled f texts (Ok rules) = (rs : List Ruling) × AreSpelled f texts rs × (all_tests rs ≤ 4096) × (rules ≡ map flat_rule rs)
+AreRuled f texts (Err e) = (e ≡ fault.BadEntry) × ((rs : List Ruling) → AreSpelled f texts rs → 4096 < all_tests rs)
+
+-- the rules of arguments, in which each comment counts as a space
+abbrev pub HaveRules : RuleForm → List (List ℕ) → Result (List FlatRule) ArgFault → Type 0
+HaveRules f args rules = (texts : List (List ℕ)) × AllZip IsWithoutComments args texts × AreRuled f texts rules
+
+-- the result is determined by the rules of 1 to 256 arguments
+abbrev pub ByRules : RuleForm → (List FlatRule → State) → List (List ℕ) → Result State ArgFault → Type 0
+ByRules f state_of args r = MatchBool (nat_le 1 (length args) && nat_le (length args) 256)
+    ((rules : Result (List FlatRule) ArgFault) × HaveRules f args rules × (r ≡ (rules >>= λ rs. Ok (state_of rs))))
+    (r ≡ Err fault.ArgumentCount)
+
 -- the first state, or the first fault, of an element of this class with these arguments
 abbrev pub IsFresh : Class → List (List ℕ) → Result State ArgFault → Type 0
 IsFresh class.Queue args r = r ≡ queue args
@@ -266,6 +286,8 @@ IsFresh class.IPMirror args r = r ≡ without_arguments state.IPMirror args
 IsFresh class.SetIPChecksum args r = r ≡ without_arguments state.SetIPChecksum args
 IsFresh class.StripIPHeader args r = r ≡ without_arguments state.StripIPHeader args
 IsFresh class.UDPIPEncap args r = r ≡ udp_ip_encap args
+IsFresh class.IPFilter args r = ByRules form.WithAction state.IPFilter args r
+IsFresh class.IPClassifier args r = ByRules form.PatternAlone state.IPClassifier args r
 
 -- the first state, or the first fault, of an element of this class with this configuration string
 pub record IsMade (class : Class) (text : List ℕ) (r : Result State ArgFault) : Type 0 where

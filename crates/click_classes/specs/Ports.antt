@@ -11,6 +11,7 @@ use Rattle.click_classes.specs.declared.ports.Codes.{Codes}
 use Rattle.click_classes.specs.declared.ports.Counts.{Counts}
 use Rattle.click_classes.specs.declared.values.entry.Entry.{Entry}
 use Rattle.click_classes.specs.declared.state.State.{State}
+use Rattle.click_patterns.specs.RuleLists.{outputs_of}
 use Rattle.click_classes.specs.declared.state.State.TheVariants as state
 
 -- the codes of the inputs, of output 0, and of the further outputs
@@ -59,6 +60,8 @@ codes_of class.IPMirror = row Agnostic Agnostic Agnostic
 codes_of class.SetIPChecksum = row Agnostic Agnostic Agnostic
 codes_of class.StripIPHeader = row Agnostic Agnostic Agnostic
 codes_of class.UDPIPEncap = row Agnostic Agnostic Agnostic
+codes_of class.IPFilter = row Push Push Push
+codes_of class.IPClassifier = row Push Push Push
 
 -- the code of a port
 abbrev pub code : Class → Side → ℕ → Code
@@ -132,3 +135,6 @@ counts state.IPMirror = ports 1 1 1 1
 counts state.SetIPChecksum = ports 1 1 1 1
 counts state.StripIPHeader = ports 1 1 1 1
 counts (state.UDPIPEncap t) = ports 1 1 1 1
+-- as many outputs as the rules name
+counts (state.IPFilter rules) = ports 1 1 (outputs_of rules) (outputs_of rules)
+counts (state.IPClassifier rules) = ports 1 1 (outputs_of rules) (outputs_of rules)

@@ -45,3 +45,5 @@ class state.IPMirror = is.IPMirror
 class state.SetIPChecksum = is.SetIPChecksum
 class state.StripIPHeader = is.StripIPHeader
 class (state.UDPIPEncap t) = is.UDPIPEncap
+class (state.IPFilter rules) = is.IPFilter
+class (state.IPClassifier rules) = is.IPClassifier

@@ -8,7 +8,7 @@ use crate::fault::ArgFault;
 use crate::values::number::number_in;
 use click_base::sequence::Sequence;
 use click_text::syntax::Span;
-use click_text::words;
+use click_text::{without_comments, words};
 use std::alloc::Global;
 use std::marker::Model;
 
@@ -31,7 +31,7 @@ impl<'a> Model for Arguments<'a> {
 impl<'a> Arguments<'a> {
     ghost use Rattle.std.specs.Prelude.{IfErr};
     ghost use Rattle.std.specs.List.{AllZip};
-    ghost use Rattle.click_text.specs.Words.{AreWords};
+    ghost use Rattle.click_text.specs.Words.{AreWords, IsWithoutComments};
     ghost use Rattle.click_classes.specs.declared.fault.ArgFault.TheVariants.{NoMemory};
     ghost use Rattle.click_classes.specs.Made.{only_number};
 
@@ -100,6 +100,19 @@ impl<'a> Arguments<'a> {
         for place in 0..self.len() {
             let cut = words(alloc, self.at(place))?;
             all.push(Sequence::of(cut))?;
+        }
+        Ok(all)
+    }
+
+    /// Returns the bytes of each argument with a space for each comment, or fails with out of
+    /// memory.
+    pub fn texts(&self, alloc: Global) -> Result<Sequence<Sequence<u8>>, ArgFault>
+        ensures ok { IfOk result (λ all. AllZip IsWithoutComments self.now all) }
+        ensures err { IfErr result (λ f. f ≡ NoMemory) }
+    {
+        let mut all = Sequence::new(alloc);
+        for place in 0..self.len() {
+            all.push(without_comments(alloc, self.at(place))?)?;
         }
         Ok(all)
     }

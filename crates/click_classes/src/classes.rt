@@ -11,6 +11,7 @@ pub mod address;
 pub mod classifier;
 pub mod devices;
 pub mod encap;
+pub mod filters;
 pub mod frames;
 pub mod gateway;
 pub mod header;
@@ -30,6 +31,7 @@ use self::address::make_get_ip_address;
 use self::classifier::make_classifier;
 use self::devices::{make_from_device, make_to_device};
 use self::encap::make_ether_encap;
+use self::filters::{make_ip_classifier, make_ip_filter};
 use self::frames::{make_ether_mirror, make_host_ether_filter};
 use self::gateway::{make_arp_responder, make_icmp_error, make_icmp_ping_responder};
 use self::header::{make_check_ip_header, make_dec_ip_ttl};
@@ -100,6 +102,8 @@ pub fn first_state(alloc: Global, class: Class, arguments: &Arguments) -> Result
         Class::SetIPChecksum => make_set_ip_checksum(arguments),
         Class::StripIPHeader => make_strip_ip_header(arguments),
         Class::UDPIPEncap => make_udp_ip_encap(arguments),
+        Class::IPFilter => make_ip_filter(alloc, arguments),
+        Class::IPClassifier => make_ip_classifier(alloc, arguments),
     }
 }
 

@@ -23,7 +23,8 @@ pub enum ArgFault {
     OutOfRange,
     /// The bytes spell no address, no prefix or no Ethernet address.
     BadAddress,
-    /// The words spell no pattern or no entry of a table; or two entries have the same prefix.
+    /// The bytes spell no pattern, no rule or no entry of a table; or two entries have the same
+    /// prefix; or rules have too many tests.
     BadEntry,
 }
 

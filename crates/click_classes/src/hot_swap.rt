@@ -63,8 +63,9 @@ impl State {
     /// Takes over the state of the old element of the same name, if it is of the same class.
     ///
     /// A Queue or FrontDropQueue takes packets, and a Counter both counts. A Switch takes the
-    /// position if it is -1 or one of its `outputs` outputs. All other elements take nothing. If
-    /// `keeps`, `old` is unchanged; otherwise its packets are unspecified. Does not allocate.
+    /// position if it is -1 or one of its `outputs` outputs. An ARPQuerier takes the table, the
+    /// packets that wait and the counts. All other elements take nothing. If `keeps`, `old` is
+    /// unchanged; otherwise its packets are unspecified. Does not allocate.
     pub fn take_over(&mut self, outputs: u16, old: &mut State, keeps: bool)
         ensures taken { self.new ≡ taken_over outputs self.old old.old }
         ensures kept { keeps ≡ true → old.new ≡ old.old }

@@ -10,6 +10,7 @@ ghost use Rattle.click_classes.specs.Acts.{after, range, side_output, pushed_to,
 use crate::classes::address::take_address;
 use crate::classes::classifier::classify;
 use crate::classes::encap::encapsulate;
+use crate::classes::filters::sort_by;
 use crate::classes::frames::{host_verdict, turn_frame};
 use crate::classes::gateway::{answer_arp, answer_ping, report_error};
 use crate::classes::header::{age, header_verdict};
@@ -169,6 +170,8 @@ impl State {
                     learn(querier, packet)
                 }
             }
+            State::IPFilter { rules } => sort_by(rules, packet),
+            State::IPClassifier { rules } => sort_by(rules, packet),
             State::ARPResponder { .. }
             | State::ICMPError { .. }
             | State::ICMPPingResponder
@@ -244,7 +247,9 @@ impl State {
             | State::InfiniteSource { .. }
             | State::FromDevice { .. }
             | State::ToDevice { .. }
-            | State::ARPQuerier { .. } => Verdict::Dropped,
+            | State::ARPQuerier { .. }
+            | State::IPFilter { .. }
+            | State::IPClassifier { .. } => Verdict::Dropped,
         }
     }
 
@@ -357,7 +362,9 @@ impl State {
             | State::IPMirror
             | State::SetIPChecksum
             | State::StripIPHeader
-            | State::UDPIPEncap { .. } => self.act_gateway(outputs, input, packet),
+            | State::UDPIPEncap { .. }
+            | State::IPFilter { .. }
+            | State::IPClassifier { .. } => self.act_gateway(outputs, input, packet),
             State::Unqueue
             | State::PullSwitch { .. }
             | State::RoundRobinSched { .. }
@@ -432,7 +439,9 @@ impl State {
             | State::InfiniteSource { .. }
             | State::FromDevice { .. }
             | State::ToDevice { .. }
-            | State::ARPQuerier { .. } => NONE,
+            | State::ARPQuerier { .. }
+            | State::IPFilter { .. }
+            | State::IPClassifier { .. } => NONE,
         }
     }
 
@@ -604,7 +613,9 @@ impl State {
             | State::IPMirror
             | State::SetIPChecksum
             | State::StripIPHeader
-            | State::UDPIPEncap { .. } => {
+            | State::UDPIPEncap { .. }
+            | State::IPFilter { .. }
+            | State::IPClassifier { .. } => {
                 let verdict = self.pass(packet);
                 pulled(outputs, verdict)
             }

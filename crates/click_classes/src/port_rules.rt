@@ -32,7 +32,9 @@ fn codes_of(class: Class) -> Codes
         | Class::PushNull
         | Class::Classifier
         | Class::StaticIPLookup
-        | Class::ARPQuerier => same(Code::Push, Code::Push),
+        | Class::ARPQuerier
+        | Class::IPFilter
+        | Class::IPClassifier => same(Code::Push, Code::Push),
         Class::PullSwitch | Class::RoundRobinSched | Class::PrioSched | Class::PullNull => same(
             Code::Pull,
             Code::Pull,
@@ -156,6 +158,10 @@ pub fn counts(state: &State) -> Counts
             ((1, 1), (outputs, outputs))
         }
         State::StaticIPLookup { entries } => ((1, 1), (outputs_for(entries.as_slice()), 256)),
+        State::IPFilter { rules } | State::IPClassifier { rules } => {
+            let outputs = rules.outputs();
+            ((1, 1), (outputs, outputs))
+        }
         State::InfiniteSource { .. } | State::FromDevice { .. } => ((0, 0), (1, 1)),
         _ => ((1, 1), (1, 1)),
     };

@@ -12,6 +12,7 @@ use crate::values::station::Station;
 use click_base::Class;
 use click_base::sequence::Sequence;
 use click_gateway::Tunnel;
+use click_patterns::Rules;
 
 /// The state of an element of each class: what its arguments and handlers set, and what packets
 /// change.
@@ -144,6 +145,14 @@ pub enum State {
     UDPIPEncap {
         tunnel: Tunnel,
     },
+    /// The rules, each with an action.
+    IPFilter {
+        rules: Rules,
+    },
+    /// The rules, one for each output.
+    IPClassifier {
+        rules: Rules,
+    },
 }
 
 impl State {
@@ -192,6 +201,8 @@ impl State {
             State::SetIPChecksum => Class::SetIPChecksum,
             State::StripIPHeader => Class::StripIPHeader,
             State::UDPIPEncap { .. } => Class::UDPIPEncap,
+            State::IPFilter { .. } => Class::IPFilter,
+            State::IPClassifier { .. } => Class::IPClassifier,
         }
     }
 }

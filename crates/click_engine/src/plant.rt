@@ -429,8 +429,9 @@ impl Plant {
     ///
     /// Each element takes over from the element with its flat name and class. A Queue or
     /// FrontDropQueue takes the first packets, as many as it has room for, and a Counter the
-    /// counts. A Switch takes the position if it is -1 or one of its own outputs. The number of
-    /// overruns is taken over too.
+    /// counts. A Switch takes the position if it is -1 or one of its own outputs. An ARPQuerier
+    /// takes the table, the packets that wait and the counts. The number of overruns is taken over
+    /// too.
     pub fn take_over(&mut self, old: &mut Plant)
         ensures { self.new ≡ taken self.old old.old }
     {

@@ -50,7 +50,9 @@ fn is_gateway(class: Class) -> bool
         | Class::IPMirror
         | Class::SetIPChecksum
         | Class::StripIPHeader
-        | Class::UDPIPEncap => true,
+        | Class::UDPIPEncap
+        | Class::IPFilter
+        | Class::IPClassifier => true,
         _ => false,
     }
 }

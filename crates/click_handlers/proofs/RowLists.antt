@@ -29,6 +29,8 @@ unlisted class.IPMirror k = refl
 unlisted class.SetIPChecksum k = refl
 unlisted class.StripIPHeader k = refl
 unlisted class.UDPIPEncap k = refl
+unlisted class.IPFilter k = refl
+unlisted class.IPClassifier k = refl
 unlisted _ k = absurd (cc k)
 
 -- classes with the same name are the same class

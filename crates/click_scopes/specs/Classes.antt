@@ -1,7 +1,7 @@
 -- The class that a name means (Click manual, "Element classes"). A definition is visible from its
 -- end on, in its scope and in the bodies inside it. A later definition hides an earlier one. The
 -- thirty element classes of the router are visible everywhere, as if they were defined before the
--- text. The statement `require(gateway);` counts as a definition of the ten classes of the gateway
+-- text. The statement `require(gateway);` counts as a definition of the classes of the gateway
 -- package.
 use Rattle.std.specs.Prelude.{ℕ, List, [], ◌∷◌, Bool, false, codes, Option, None, Some, option_map, if◌then◌else◌}
 use Rattle.std.specs.Str.{bytes_eq}

@@ -5,7 +5,6 @@ use Rattle.std.specs.List.{AllZip}
 use Rattle.std.proofs.lemmas.Bool.Decides.{nat_tests}
 use Rattle.std.proofs.lemmas.List.{take_more}
 use Rattle.click_text.specs.Unquote.{StandsFor}
-use Rattle.click_text.specs.Words.{AreWords}
 use Rattle.click_classes.specs.declared.fault.ArgFault.{ArgFault}
 use Rattle.click_classes.specs.declared.fault.ArgFault.TheVariants as fault
 use Rattle.click_classes.specs.Made.{source_bytes}
@@ -17,9 +16,9 @@ zip_push R [] (b ∷ ys) x y h r = absurd h
 zip_push R (a ∷ xs) [] x y h r = absurd h
 zip_push R (a ∷ xs) (b ∷ ys) x y h r = (h.0, zip_push R xs ys x y h.1 r)
 
--- the words of one more argument
-pub words_more : (args : List (List ℕ)) (all : List (List (List ℕ))) (i : ℕ) (w : List (List ℕ)) → i < length args → AllZip AreWords (take i args) all → AreWords (get_or args i []) w → AllZip AreWords (take (i + 1) args) (all ++ w ∷ [])
-words_more args all i w h so_far next = let e = take_more args i [] h in rw e (zip_push AreWords (take i args) all (get_or args i []) w so_far next)
+-- what is read of one more argument
+pub one_more_read : {B : Type 0} (R : List ℕ → B → Type 0) (args : List (List ℕ)) (all : List B) (i : ℕ) (b : B) → i < length args → AllZip R (take i args) all → R (get_or args i []) b → AllZip R (take (i + 1) args) (all ++ b ∷ [])
+one_more_read R args all i b h so_far next = let e = take_more args i [] h in rw e (zip_push R (take i args) all (get_or args i []) b so_far next)
 
 -- the bytes of a source, if its first argument is given
 pub bytes_given : (argument : List ℕ) (o : Option (List ℕ)) (bytes : Option (List ℕ)) (r : Result (List ℕ) ArgFault) → Some argument ≡ o → StandsFor argument bytes → r ≡ source_bytes (Some bytes) → AreBytes o r

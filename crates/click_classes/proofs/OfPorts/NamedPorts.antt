@@ -1,17 +1,17 @@
 -- The ports that an element names exist.
-use Rattle.std.proofs.Common.{◌≡◌, ℕ, ◌+◌, ◌<◌, ◌≤◌, List, [], ◌∷◌, length, take, ◌==◌, nat_lt, Bool, true, false, Option, Some, None, if◌then◌else◌, min, max, refl, sym, ap, ◌∙◌, arith}
+use Rattle.std.proofs.Common.{◌≡◌, ℕ, ◌+◌, ◌<◌, ◌≤◌, List, [], ◌∷◌, length, take, ◌==◌, nat_lt, Bool, true, false, Option, Some, None, if◌then◌else◌, min, max, refl, sym, ap, ◌∙◌, arith, inl, inr}
 use Rattle.std.specs.Prelude.{position, slice_get, ◌&&◌}
 use Rattle.click_gateway.specs.Addresses.{is_host, ethernet_of_group}
 use Rattle.click_gateway.specs.Arp.{Sender, sender}
 use Rattle.click_classes.specs.Neighbours.{Neighbour, place_of}
 use Rattle.click_classes.specs.declared.neighbours.Querier.{Querier}
 use Rattle.std.proofs.Math.Nat.{le-max_left, le-max_right}
-use Rattle.std.proofs.lemmas.Bool.{cond_both}
+use Rattle.std.proofs.lemmas.Bool.{cases_Bool, cond_both}
 use Rattle.std.proofs.lemmas.Bool.Decides.{nat_tests}
 use Rattle.std.proofs.lemmas.List.{length-take}
 use Rattle.std.proofs.lemmas.List.Quantifiers.{position-Some}
 use Rattle.click_packet.specs.Packet.{Packet}
-use Rattle.click_classes.specs.Acts.{counting, sent_to, asked, using, resolved_by, resolved_at, resolved, forwarded, taken_in, has_header_room, let_go, knowing, learnt_at, learnt_of, learnt, act, pass, gives, pushed_to, copied_to, is_active, front_dropped, switched, routed, classified, tries, PushEffect}
+use Rattle.click_classes.specs.Acts.{counting, sent_to, asked, using, resolved_by, resolved_at, resolved, forwarded, taken_in, has_header_room, let_go, knowing, learnt_at, learnt_of, learnt, act, pass, gives, pushed_to, copied_to, is_active, front_dropped, output_of, switched, routed, classified, tries, PushEffect}
 use Rattle.click_classes.specs.Ports.{outputs_for}
 use Rattle.click_classes.specs.Fitting.{FitsPorts, AreThere, AreAsked}
 use Rattle.click_classes.specs.Matches.{matches}
@@ -23,6 +23,10 @@ use Rattle.click_classes.specs.declared.state.State.{State}
 use Rattle.click_classes.specs.declared.state.State.TheVariants as state
 use Rattle.click_classes.specs.declared.values.entry.Entry.{Entry}
 use Rattle.click_classes.specs.declared.values.pattern.Pattern.{Pattern}
+use Rattle.click_filter.specs.declared.rule.Action.{Action}
+use Rattle.click_filter.specs.declared.rule.Action.TheVariants as action
+use Rattle.click_patterns.specs.declared.rules.FlatRule.{FlatRule}
+use Rattle.click_patterns.specs.RuleLists.{flat_truth, decided, outputs_of, outputs_for as outputs_needed}
 
 -- ---- by the verdict on the packet
 
@@ -59,6 +63,20 @@ classified-below ps bytes k e = go (take 256 ps) refl
     go (q ∷ qs) is =
         let inside = (position-Some (λ r. matches r bytes) (take 256 ps) k q e).0 in
         grind (arith, nat_tests, inside, length-take 256 ps)
+
+-- the output of the rule that decides is counted
+rule-named : (a : Action) (k : ℕ) → output_of a ≡ Some k → k + 1 ≤ outputs_needed a
+rule-named (action.Output n) k h = let same : n ≡ k = cc in omega (arith, same)
+rule-named action.Drop k h = absurd (cc h)
+
+rule-output : (rules : List FlatRule) (bytes : List ℕ) (k : ℕ) → output_of (decided rules bytes) ≡ Some k → k + 1 ≤ outputs_of rules
+rule-output [] bytes k e = absurd (cc e)
+rule-output (r ∷ rs) bytes k e = elim (cases_Bool (flat_truth r.nodes bytes)) [
+  | inl t ↦ let h : output_of r.action ≡ Some k = rw t at e in omega (arith, rule-named r.action k h, le-max_left (outputs_needed r.action) (outputs_of rs))
+  | inr t ↦
+      let h : output_of (decided rs bytes) ≡ Some k = rw t at e in
+      omega (arith, rule-output rs bytes k h, le-max_right (outputs_needed r.action) (outputs_of rs))
+]
 
 -- the output of the entry that is found, the first or one of the rest, is counted
 module _ (f e : Entry) (fs : List Entry) (a : List ℕ) (rest : route fs a ≡ Some e → e.output + 1 ≤ outputs_for fs) where
@@ -149,6 +167,10 @@ act-there inputs outputs input (state.Classifier ps) p h i c =
     switched-there outputs (state.Classifier ps) (classified ps p.bytes) p (λ k e. omega (arith, h.outputs_from, classified-below ps p.bytes k e)) c
 act-there inputs outputs input (state.StaticIPLookup es) p h i c =
     routed-there outputs (state.StaticIPLookup es) (route es p.destination) p (λ e k. omega (arith, h.outputs_from, found-output es p.destination e k)) c
+act-there inputs outputs input (state.IPFilter rules) p h i c =
+    switched-there outputs (state.IPFilter rules) (output_of (decided rules p.bytes)) p (λ k e. omega (arith, h.outputs_from, rule-output rules p.bytes k e)) c
+act-there inputs outputs input (state.IPClassifier rules) p h i c =
+    switched-there outputs (state.IPClassifier rules) (output_of (decided rules p.bytes)) p (λ k e. omega (arith, h.outputs_from, rule-output rules p.bytes k e)) c
 act-there inputs outputs input state.Unqueue p h i c = pushed-there outputs verdict.Dropped h.outputs_from c
 act-there inputs outputs input (state.Counter n b) p h i c = pushed-there outputs verdict.Forward h.outputs_from c
 act-there inputs outputs input (state.PullSwitch k) p h i c = pushed-there outputs verdict.Dropped h.outputs_from c

@@ -5,6 +5,9 @@ use Rattle.std.specs.Str.{bytes_eq}
 use Rattle.std.proofs.lemmas.Bool.{cases_Bool}
 use Rattle.std.proofs.lemmas.Bool.Decides.{nat_tests}
 use Rattle.std.specs.List.{AllZip}
+use Rattle.click_patterns.specs.declared.rules.FlatRule.{FlatRule}
+use Rattle.click_patterns.specs.declared.rules.RuleForm.{RuleForm}
+use Rattle.click_patterns.specs.declared.rules.RuleForm.TheVariants as form
 use Rattle.click_text.specs.Words.{AreWords}
 use Rattle.click_base.specs.Numbers.{within}
 use Rattle.click_base.specs.declared.class.Class.{Class}
@@ -16,7 +19,7 @@ use Rattle.click_classes.specs.declared.state.State.TheVariants as state
 use Rattle.click_classes.specs.declared.values.entry.Entry.{Entry}
 use Rattle.click_classes.specs.Ports.{ports, at_least, up_to_256, outputs_for, counts}
 use Rattle.click_classes.specs.Entries.{word, entry_of, entry, has_prefix, with_entry, table}
-use Rattle.click_classes.specs.Made.{argument_at, given_or, optional, addresses, source_bytes, without_arguments, suppressor, capacity, empty, queue, front_drop_queue, switch_port, switch, pull_switch, copies, tee, pull_tee, only_number, paint, paint_tee, strip, check_length, get_ip_address, ether_header, ether_encap, device, from_device, to_device, classifier, static_ip_lookup, check_ip_header, infinite_source, station, arp_responder, querier, arp_querier, error_kind, icmp_error, host_ether_filter, udp_ip_encap, FirstStandsFor, ByWords, IsFresh}
+use Rattle.click_classes.specs.Made.{argument_at, given_or, optional, addresses, source_bytes, without_arguments, suppressor, capacity, empty, queue, front_drop_queue, switch_port, switch, pull_switch, copies, tee, pull_tee, only_number, paint, paint_tee, strip, check_length, get_ip_address, ether_header, ether_encap, device, from_device, to_device, classifier, static_ip_lookup, check_ip_header, infinite_source, station, arp_responder, querier, arp_querier, error_kind, icmp_error, host_ether_filter, udp_ip_encap, FirstStandsFor, ByWords, HaveRules, ByRules, IsFresh}
 use Rattle.click_classes.specs.Patterns.{pattern}
 use Rattle.click_classes.specs.State.{class}
 use Rattle.click_classes.specs.Steps.{◌>>=◌, each}
@@ -42,6 +45,16 @@ cut false first args s e = cc
 
 pub by_words : (least most : ℕ) (first : List (List (List ℕ)) → Result State ArgFault) (args : List (List ℕ)) (s : State) → ByWords least most first args (Ok s) → AtWords first args s
 by_words least most first args s h = cut (nat_le least (length args) && nat_le (length args) most) first args s h
+
+ruled : (fits : Bool) (f : RuleForm) (state_of : List FlatRule → State) (args : List (List ℕ)) (s : State) →
+    MatchBool fits ((rules : Result (List FlatRule) ArgFault) × HaveRules f args rules × (Ok s ≡ (rules >>= λ rs. Ok (state_of rs)))) (Ok s ≡ Err fault.ArgumentCount)
+    → (rules : Result (List FlatRule) ArgFault) × (Ok s ≡ (rules >>= λ rs. Ok (state_of rs)))
+ruled true f state_of args s (rules, h, e) = (rules, e)
+ruled false f state_of args s e = cc
+
+pub by_rules : (f : RuleForm) (state_of : List FlatRule → State) (args : List (List ℕ)) (s : State) → ByRules f state_of args (Ok s)
+    → (rules : Result (List FlatRule) ArgFault) × (Ok s ≡ (rules >>= λ rs. Ok (state_of rs)))
+by_rules f state_of args s h = ruled (nat_le 1 (length args) && nat_le (length args) 256) f state_of args s h
 
 abbrev AtFirst : Option (List ℕ) → (Option (Option (List ℕ)) → Result State ArgFault) → State → Type 0
 AtFirst argument state_of s = (first : Option (Option (List ℕ))) × FirstStandsFor argument first × (Ok s ≡ state_of first)
@@ -157,6 +170,9 @@ only_in = ranges 1 1 0 0 (omega arith) (omega arith)
 only_out : HasUse (ports 0 0 1 1)
 only_out = ranges 0 0 1 1 (omega arith) (omega arith)
 
+as_many : (n : ℕ) → HasUse (ports 1 1 n n)
+as_many n = ranges 1 1 n n (omega arith) (omega arith)
+
 up_to : (n : Option ℕ) → HasUse (ports 1 1 (up_to_256 n).0 (up_to_256 n).1)
 up_to None = ranges 1 1 1 256 (omega arith) (omega arith)
 up_to (Some n) = ranges 1 1 n n (omega arith) (omega arith)
@@ -262,3 +278,5 @@ first_well is.IPMirror args s h = well_plain is.IPMirror state.IPMirror s args h
 first_well is.SetIPChecksum args s h = well_plain is.SetIPChecksum state.SetIPChecksum s args h refl one_one
 first_well is.StripIPHeader args s h = well_plain is.StripIPHeader state.StripIPHeader s args h refl one_one
 first_well is.UDPIPEncap args s h = well_udp_ip_encap args s h
+first_well is.IPFilter args s h = let w = by_rules form.WithAction state.IPFilter args s h in well_of w.0 is.IPFilter state.IPFilter s w.1 (λ _. refl) (λ _ _. as_many _)
+first_well is.IPClassifier args s h = let w = by_rules form.PatternAlone state.IPClassifier args s h in well_of w.0 is.IPClassifier state.IPClassifier s w.1 (λ _. refl) (λ _ _. as_many _)

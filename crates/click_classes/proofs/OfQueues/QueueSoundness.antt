@@ -3,7 +3,8 @@ use Rattle.std.proofs.Common.{◌≡◌, ℕ, ◌+◌, ◌≤◌, List, [], ◌�
 use Rattle.std.proofs.lemmas.Bool.{cond_both, eqb-false}
 use Rattle.click_packet.specs.Header.{ttl}
 use Rattle.click_packet.specs.Packet.{Packet}
-use Rattle.click_classes.specs.Acts.{made_or, act, pass, gives, stored, emission, is_active, queued, front_queued, front_dropped, switched, routed, classified, aged, first_of, fresh_packet, up_by, PassEffect, PushEffect, Stored}
+use Rattle.click_patterns.specs.RuleLists.{decided}
+use Rattle.click_classes.specs.Acts.{output_of, made_or, act, pass, gives, stored, emission, is_active, queued, front_queued, front_dropped, switched, routed, classified, aged, first_of, fresh_packet, up_by, PassEffect, PushEffect, Stored}
 use Rattle.click_classes.specs.Gateway.{arp_reply, error_report, ping_reply, frame_mirror, datagram_mirror, checksum_set, header_stripped, udp_encapsulated}
 use Rattle.click_classes.specs.Settings.{settings}
 use Rattle.click_classes.specs.declared.neighbours.Querier.{Querier}
@@ -94,6 +95,8 @@ act-sound outputs input (state.Tee n) p h = tt
 act-sound outputs input (state.Suppressor active) p h = acts (is_active active input) _ _ tt tt
 act-sound outputs input (state.Classifier patterns) p h = switched-sound (state.Classifier patterns) (classified patterns p.bytes) p tt
 act-sound outputs input (state.StaticIPLookup entries) p h = routed-sound (state.StaticIPLookup entries) (route entries p.destination) p tt
+act-sound outputs input (state.IPFilter rules) p h = switched-sound (state.IPFilter rules) (output_of (decided rules p.bytes)) p tt
+act-sound outputs input (state.IPClassifier rules) p h = switched-sound (state.IPClassifier rules) (output_of (decided rules p.bytes)) p tt
 act-sound outputs input (state.ARPQuerier q) p h = no-queue (act outputs (state.ARPQuerier q) input p).state q (act-settings outputs input (state.ARPQuerier q) p)
 act-sound outputs input s p h = pass-sound s p h
 

@@ -3,7 +3,8 @@ use Rattle.std.proofs.Common.{◌≡◌, ℕ, ◌+◌, List, [], ◌∷◌, leng
 use Rattle.std.proofs.lemmas.Bool.{cond_both}
 use Rattle.click_packet.specs.Header.{ttl}
 use Rattle.click_packet.specs.Packet.{Packet}
-use Rattle.click_classes.specs.Acts.{made_or, counting, sent_to, using, resolved_by, resolved_at, resolved, forwarded, taken_in, has_header_room, let_go, knowing, learnt_at, learnt_of, learnt, act, pass, gives, stored, emission, is_active, front_dropped, switched, routed, classified, aged, first_of, fresh_packet, up_by, PassEffect, PushEffect, Stored}
+use Rattle.click_patterns.specs.RuleLists.{decided}
+use Rattle.click_classes.specs.Acts.{output_of, made_or, counting, sent_to, using, resolved_by, resolved_at, resolved, forwarded, taken_in, has_header_room, let_go, knowing, learnt_at, learnt_of, learnt, act, pass, gives, stored, emission, is_active, front_dropped, switched, routed, classified, aged, first_of, fresh_packet, up_by, PassEffect, PushEffect, Stored}
 use Rattle.std.specs.Prelude.{◌&&◌, nat_lt, slice_get}
 use Rattle.click_gateway.specs.Addresses.{is_host, ethernet_of_group}
 use Rattle.click_gateway.specs.Arp.{Sender, sender}
@@ -115,6 +116,8 @@ act-settings outputs input (state.Tee n) p = refl
 act-settings outputs input (state.Suppressor active) p = acts (state.Suppressor active) (is_active active input) _ _ refl refl
 act-settings outputs input (state.Classifier patterns) p = switched-settings (state.Classifier patterns) (classified patterns p.bytes) p
 act-settings outputs input (state.StaticIPLookup entries) p = routed-settings (state.StaticIPLookup entries) (route entries p.destination) p
+act-settings outputs input (state.IPFilter rules) p = switched-settings (state.IPFilter rules) (output_of (decided rules p.bytes)) p
+act-settings outputs input (state.IPClassifier rules) p = switched-settings (state.IPClassifier rules) (output_of (decided rules p.bytes)) p
 act-settings outputs input (state.ARPQuerier q) p =
     acts (state.ARPQuerier q) (input == 0) _ _ (taken_in-settings (counting q) outputs p) (learnt-settings q p (sender p.bytes))
 act-settings outputs input s p = pass-settings s p

@@ -53,12 +53,12 @@ const NOWHERE: PortRange = PortRange { first: 0, count: 0 };
 ///   address and the Ethernet address, or `-` if that is not known. `count` is the number of
 ///   entries, and `drops` that of dropped packets, at most 2^64 - 1.
 /// - Write handlers: `insert`, an address and an Ethernet address, which is known from then on (not
-///   an address, out of range). It is out of range if the table is full, if the address cannot be
-///   one host's, or if the Ethernet address is zero or a group's. `delete`, an address, removes its
-///   entry (not an address). `clear` removes all entries. `expire`, a number N, removes each entry
-///   after whose last use N or more packets arrived at input 0 (not a number, out of range).
-///   `reset_counts` sets `drops` to 0. A packet that waits for an entry that is removed or
-///   overwritten is dropped.
+///   an address, out of range). An address that cannot be one host's is out of range, and so is an
+///   Ethernet address that is zero or a group's. If the table is full, so is an address that has no
+///   entry. `delete`, an address, removes its entry (not an address). `clear` removes all entries.
+///   `expire`, a number N, removes each entry after whose last use N or more packets arrived at
+///   input 0 (not a number, out of range). `reset_counts` sets `drops` to 0. A packet that waits
+///   for an entry that is removed or overwritten is dropped.
 ///
 /// ```click
 /// require(gateway);

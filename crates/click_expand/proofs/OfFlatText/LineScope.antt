@@ -89,6 +89,8 @@ no-gateway kind.IPMirror k = absurd (cc k)
 no-gateway kind.SetIPChecksum k = absurd (cc k)
 no-gateway kind.StripIPHeader k = absurd (cc k)
 no-gateway kind.UDPIPEncap k = absurd (cc k)
+no-gateway kind.IPFilter k = absurd (cc k)
+no-gateway kind.IPClassifier k = absurd (cc k)
 no-gateway _ k = refl
 
 -- the name of a class means that class, if `g` is true or the class is not of the gateway package
