@@ -92,7 +92,7 @@ programs() {
     # The wrapper writes only after the program has ended, which is too late for `call_limits` and
     # tools/client.sh.
     for script in 'tools/examples.py commands client files arguments limits refused opens faults pictures books sections dialogue wrong_lines' \
-        'tools/alloc_failures.py pictures pcap' tools/swap_faults.sh tools/swap_sizes.sh tools/pcap_example.sh; do
+        'tools/alloc_failures.py pictures pcap' tools/swap_faults.sh tools/swap_sizes.sh tools/pcap_example.sh 'tools/filters.py --patterns 3'; do
         # shellcheck disable=SC2086
         QUICK=1 passes "$script" env "PROGRAM=$work/click_prog" $script
     done
@@ -102,6 +102,7 @@ programs() {
     wrong_swaps
     wrong_captures
     wrong_client
+    wrong_filters
 }
 
 # wrong_examples: wrong statuses, outputs and messages in each kind of example.
@@ -197,6 +198,20 @@ E
     PROGRAM=$work/click_prog SECONDS_TO_WAIT=1 is_refused 'a program with late replies' tools/client.sh
 }
 
+# wrong_filters: other outputs, packets and faults. tools/filters.py --wrong has wrong meanings.
+wrong_filters() {
+    local script='tools/filters.py --patterns 3'
+    wrong_calls "$script" 'a packet at another output' 'sed -i "0,/ 11 0.0.0.0$/s// 10 0.0.0.0/" "$out"'
+    wrong_calls "$script" 'another byte in a packet' 'sed -i "0,/^sent 45/s//sent 46/" "$out"'
+    wrong_calls "$script" 'a packet less' 'sed -i "0,/^sent .* 1 0.0.0.0$/s//sent none/" "$out"'
+    wrong_calls "$script" 'a reply less' 'sed -i 2d "$out"'
+    wrong_calls "$script" 'a wrong text that is taken' 'sed -i "0,/^refused Config 26.*/s//done/" "$out"'
+    wrong_calls "$script" 'a text that is refused' 'if ! grep -q "^sent" "$out"; then sed -i "0,/^done$/s//refused Config 26 BadEntry in f/" "$out"; fi'
+    wrong_calls "$script" 'no fault of unused outputs' 'sed -i "s/^refused Config 32 .*/done/" "$out"'
+    wrong_calls "$script" 'another fault' 'sed -i "0,/26 BadEntry/s//25 BadAddress/" "$out"'
+    wrong_calls "$script" 'status 3 instead of 0' 'status=3'
+}
+
 # --- Sessions over TCP, hostile clients, links over UDP, the gateway. ---
 
 # case_wrong SCRIPT CASE WHAT LINE..: checks that the case of the script refuses a program that is
@@ -211,7 +226,6 @@ case_wrong() {
 sessions_wrong() { case_wrong tools/sessions.sh "$@"; }
 hostile_wrong() { case_wrong tools/hostile.sh "$@"; }
 links_wrong() { case_wrong tools/udp_links.py "$@"; }
-gateway_wrong() { case_wrong examples/gateway/run.sh '' "$@"; }
 # named_wrong SCRIPT CASE WHAT MESSAGE LINE..: does the same. The message has to name the check,
 # because a program or a configuration that does not start is refused too.
 named_wrong() {
@@ -222,7 +236,8 @@ named_wrong() {
 }
 service_wrong() { named_wrong tools/service.py "$@"; }
 log_wrong() { named_wrong tools/session_log.py "$@"; }
-# ethernet_wrong WHAT MESSAGE LINE..
+# gateway_wrong, ethernet_wrong WHAT MESSAGE LINE..
+gateway_wrong() { named_wrong examples/gateway/run.sh '' "$@"; }
 ethernet_wrong() { named_wrong examples/ethernet/run.sh '' "$@"; }
 
 # exchanged FROM TO: prints lines that start the program with one argument replaced.
@@ -358,7 +373,7 @@ wrong_service() {
 # wrong_log: lines of --log that are left out, wrong, mixed, forged or not asked for.
 wrong_log() {
     log_wrong ends 'another cause' 'the lines of session 1' "$(retold 's/cause=quit/cause=end-of-input/')"
-    log_wrong ends 'another number' 'the number of a session' "$(retold 's/session=2/session=3/')"
+    log_wrong ends 'another number' 'the numbers of sessions' "$(retold 's/session=2/session=3/')"
     log_wrong ends 'a time of another year' 'the time is not' "$(retold 's/^2/1/')"
     log_wrong swaps 'a swap that is left out' 'the lines of session 1' "$(retold '/outcome=installed/d')"
     log_wrong swaps 'another position of a fault' 'the lines of session 1' "$(retold 's/ at 1:9/ at 1:8/')"
@@ -423,7 +438,7 @@ network() {
     links_wrong carrying 'a packet in a thousand that is lost' "$(relayed loses)"
     # The gateway between two networks, if this machine has what it needs.
     if [ "$(examples/gateway/run.sh | tail -n 1)" = passed ]; then
-        gateway_wrong 'a way back that is missing' "$(reworded '10\.1\.0\.0\/16 0, ' '10.3.0.0\/16 0, ')"
+        wrong_gateways
     else
         echo 'left out: the gateway'
     fi
@@ -450,6 +465,16 @@ wrong_ethernets() {
     ethernet_wrong 'a packet in a thousand that is lost' wanted "$(relayed loses)"
     ethernet_wrong 'datagrams that it does not count' 'right/datagrams.count' "$(reworded 'datagrams :: Counter' 'datagrams :: Null')"
     ethernet_wrong 'more in its counts than entered' 'the counts of the links' "$(retold 's/entered /&1/')"
+}
+
+# wrong_gateways: checks that the gateway's script refuses a wrong route and wrong rules.
+wrong_gateways() {
+    gateway_wrong 'a way back that is missing' 'the gateway: pings' "$(reworded '10\.1\.0\.0\/16 0, ' '10.3.0.0\/16 0, ')"
+    gateway_wrong 'rules that keep all packets' 'the gateway: pings' "$(reworded 'allow ' '1 ')"
+    gateway_wrong 'rules that let all packets through' 'pings from outside: wanted status 1' "$(reworded '1 all' 'allow none, 1 none, allow all')"
+    gateway_wrong 'rules that let pings in' 'packets of pings from outside' "$(reworded 'icmp type echo-reply' icmp)"
+    gateway_wrong 'rules that let all TCP out' 'curl at port 22: packets that kept_in counts: 0' "$(reworded 'tcp dst port 80' tcp)"
+    gateway_wrong 'rules without the test of ACK' 'curl from outside: wanted status 28' "$(reworded ' and tcp opt ack' '')"
 }
 
 # --- Test scripts. ---
