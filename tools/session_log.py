@@ -1,7 +1,7 @@
 #!/usr/bin/env python3
-"""Checks what --log prints: a line with the time for the begin and the end of each session, for
-each swap and for each other write, with its outcome. Names of handlers cannot forge a line, lines of
-parallel sessions do not mix, and a failed write to standard error changes nothing. Without --log
+"""Checks what --log prints. Each begin and end of a session has a line with the time. So has each swap
+and each other write of a session or of the page, with its outcome. Names of handlers cannot forge a
+line, parallel lines do not mix, and a failed write to standard error changes nothing. Without --log
 nothing is printed.
 
     tools/session_log.py [CASE..]
@@ -12,6 +12,7 @@ the script with status 1.
 """
 from __future__ import annotations
 
+import json
 import os
 import re
 import socket
@@ -19,6 +20,7 @@ import struct
 import subprocess
 import sys
 from datetime import datetime, timedelta, timezone
+from urllib.parse import quote_from_bytes
 
 sys.dont_write_bytecode = True
 sys.path.append(f"{os.path.dirname(os.path.realpath(__file__))}/lib")
@@ -29,8 +31,10 @@ from sessions import GREETING, SECONDS, Session, Wrong, all_at_once, free_port
 PROGRAM = path_of("click_prog")
 TEXT = "Idle -> c :: Counter -> s :: Switch(0) -> Discard;"
 OTHER_TEXT = "Idle -> q :: Queue(7) -> Discard;"
-# A line has printable characters only, and one session.
-LINE = re.compile(r"(\d{4}-\d\d-\d\dT\d\d:\d\d:\d\d\.\d{3}Z) session=(\d+) ((?:(?! session=)[ -~])*)\n")
+# A line has printable characters only, and one session or the page.
+LINE = re.compile(r"(\d{4}-\d\d-\d\dT\d\d:\d\d:\d\d\.\d{3}Z) (?:session=([1-9]\d*)|page) ((?:(?! session=)[ -~])*)\n")
+# The key of the page's lines, where those of sessions have their number.
+PAGE = 0
 # A session that makes no call ends with these words.
 NO_CALLS = "reads=0 writes=0 checks=0 failed=0"
 # The clocks of the program and of this script are the same, but the program cuts its times.
@@ -48,11 +52,11 @@ class Logged(Listening):
     With one session slot the sessions come one after another, so the order of all lines is known.
     """
 
-    def __init__(self, *options: str, text: str = TEXT, slots: int = 1):
+    def __init__(self, *options: str, text: str = TEXT, slots: int = 1, is_on: bool = True):
         # The times of the log do not depend on the time zone.
         os.environ["TZ"] = "America/New_York"
         self.began = datetime.now(timezone.utc)
-        super().__init__(PROGRAM, text, slots, "--log", *options)
+        super().__init__(PROGRAM, text, slots, *["--log"][:is_on], *options)
 
     def __enter__(self) -> Logged:
         return self
@@ -61,10 +65,10 @@ class Logged(Listening):
         self.stop()
 
     def lines(self, in_order: bool = True) -> dict[int, list[str]]:
-        """Ends the program, and returns the lines of each session without their times.
+        """Ends the program, and returns the lines of each session, and of PAGE, without their times.
 
         Checks the times: they are in UTC, between the program's start and now, and never go back in
-        one session. Also checks that the numbers of sessions are those from 1, and that they are in
+        one session or on the page. Also checks that the numbers of sessions are those from 1, and that they are in
         this order, unless sessions began at the same time: then either line can be written first.
         """
         self.process.kill()
@@ -76,14 +80,37 @@ class Logged(Listening):
             parts = LINE.fullmatch(line)
             if not parts:
                 raise Wrong(f"this is not a line of the log: {line!r}")
-            at, number = datetime.fromisoformat(parts[1].replace("Z", "+00:00")), int(parts[2])
+            at, number = datetime.fromisoformat(parts[1].replace("Z", "+00:00")), int(parts[2] or PAGE)
             if not last.get(number, self.began - SLACK) <= at <= datetime.now(timezone.utc):
                 raise Wrong(f"the time is not between the line before and now: {line!r}")
             last[number] = at
             found.setdefault(number, []).append(parts[3])
-        numbers = list(found) if in_order else sorted(found)
-        same(list(range(1, len(found) + 1)), numbers, "the numbers of sessions that begin")
+        numbers = [it for it in found if it != PAGE]
+        same(list(range(1, len(numbers) + 1)), numbers if in_order else sorted(numbers), "the numbers of sessions that begin")
         return found
+
+
+class Paged(Logged):
+    """A router with a page, and with --log if it is on."""
+
+    def __init__(self, *options: str, slots: int = 1, is_on: bool = True):
+        self.page = free_port()
+        super().__init__("--page", str(self.page), *options, slots=slots, is_on=is_on)
+        until(lambda: listeners(self.page) or self.process.poll() is not None, "the page does not listen")
+
+    def post(self, target: str, body: bytes) -> dict[str, object]:
+        """Posts this to the page, and returns the value of the JSON in the response."""
+        head = f"POST {target} HTTP/1.1\r\nHost: 127.0.0.1:{self.page}\r\nConnection: close\r\nx-click-page: 1\r\nContent-Length: {len(body)}\r\n\r\n"
+        with connect(self.page) as peer:
+            peer.sendall(head.encode() + body)
+            return json.loads(rest_of(peer).partition(b"\r\n\r\n")[2])
+
+    def write(self, name: bytes, text: bytes) -> dict[str, object]:
+        return self.post(f"/write?handler={quote_from_bytes(name, safe='')}", text)
+
+    def same_page_lines(self, wanted: list[str]) -> None:
+        """Checks the lines of the page, over a router without a session."""
+        same({PAGE: wanted} if wanted else {}, self.lines(), "the lines of the page")
 
 
 def same(wanted: object, came: object, what: str) -> None:
@@ -163,9 +190,9 @@ def unread() -> None:
             raise Wrong(f"the end of a client that never reads: {lines}")
 
 
-def swaps() -> None:
-    """Checks the lines of swaps: installed, or with the fault that the reply has."""
-    texts = [
+def swap_texts() -> list[str]:
+    """Returns configurations, of which the first two can be installed. One has a long fault."""
+    return [
         OTHER_TEXT,
         "Idle -> q :: Queue(7) -> Discard",
         "Idle -> Foo -> Discard;",
@@ -175,17 +202,40 @@ def swaps() -> None:
         "Idle ->",
         f"a{'b' * 300} :: Queue(0);",
     ]
+
+
+def swap_lines(texts: list[str], faults: list[str]) -> list[str]:
+    """Returns the lines of swaps to these texts: two are installed, and the others have faults."""
+    same(len(texts) - 2, len(faults), "the number of refused swaps")
+    if not any(len(it) > 160 for it in faults):
+        raise Wrong("no fault is long")
+    outcomes = ["installed"] * 2 + [f'fault fault="{cut(it)}"' for it in faults]
+    return [f"swap bytes={len(text)} outcome={outcome}" for text, outcome in zip(texts, outcomes)]
+
+
+def swaps() -> None:
+    """Checks the lines of swaps: installed, or with the fault that the reply has."""
+    texts = swap_texts()
     sent = b"".join(written(b"hotconfig", it.encode()) for it in texts)
     with Logged("--live") as router:
         replies = talk(router.port, sent + b"WRITE hotconfig Idle -> Discard\nREAD config\n")
-        faults = faults_in(replies)
-        same(len(texts) - 2, len(faults), "the number of refused swaps")
-        outcomes = ["installed"] * 2 + [f'fault fault="{cut(it)}"' for it in faults]
-        lines = [f"swap bytes={len(text)} outcome={outcome}" for text, outcome in zip(texts, outcomes)]
+        lines = swap_lines(texts, faults_in(replies))
         end = f"ends cause=end-of-input reads=1 writes={len(texts) + 1} checks=0 failed=0"
         same_lines([[*lines, "swap bytes=15 outcome=installed", end]], router)
-        if not any(len(it) > 160 for it in faults):
-            raise Wrong("no fault is long")
+
+
+def page_swaps() -> None:
+    """Checks the lines of swaps by the page, before and after those of a session."""
+    texts = swap_texts()
+    with Paged("--live") as router:
+        answers = [router.post("/swap", it.encode()) for it in texts]
+        same([{"done": True}] * 2, answers[:2], "the first two swaps")
+        lines = swap_lines(texts, [it["text"].split("\n520 ")[1].rstrip("\r\n") for it in answers[2:]])
+        talk(router.port, written(b"hotconfig", b"Idle -> Discard") + b"QUIT\n")
+        same({"done": True}, router.post("/swap", b"Idle -> Counter -> Discard"), "a swap after the session")
+        came = router.lines()
+        same([*lines, "swap bytes=26 outcome=installed"], came.pop(PAGE, None), "the lines of the page")
+        same({1: ["begins slot=1", "swap bytes=15 outcome=installed", "ends cause=quit reads=0 writes=1 checks=0 failed=0"]}, came, "the lines of the session")
 
 
 def cut(fault: str) -> str:
@@ -193,12 +243,14 @@ def cut(fault: str) -> str:
     return fault if len(fault) <= 160 else f"{fault[:160]}..."
 
 
-def writes() -> None:
-    """Checks the lines of writes, with each outcome, and the escapes in names."""
-    # Each row has a name, a text, the name in the line, and the outcome. In a name only the bytes of
-    # words can come, but these can be those of a terminal.
+def write_rows(longest: int) -> list[tuple[bytes, bytes, str, str]]:
+    """Returns writes with each outcome. The longest name has this number of bytes.
+
+    Each row has a name, a text, the name in the line, and the outcome. No name has a byte that ends
+    a word of a session, but these bytes can be those of a terminal.
+    """
     long = b"n" * 64
-    rows = [
+    return [
         (b"s.switch", b"-1", "s.switch", "done"),
         (b"s.switch", b"", "s.switch", 'fault fault="not a number"'),
         (b"s.switch", b"1", "s.switch", 'fault fault="out of range"'),
@@ -211,15 +263,23 @@ def writes() -> None:
         (b"\x00\x1b[2J\x7f\xff\xc3\xa9.a", b"1", r"\x00\x1b[2J\x7f\xff\xc3\xa9.a", "no-element"),
         (long, b"1", long.decode(), "no-handler"),
         (long + b"x", b"1", f"{long.decode()}...", "no-handler"),
-        (b"\xff" * 65_000, b"1", r"\xff" * 64 + "...", "no-handler"),
+        (b"\xff" * longest, b"1", r"\xff" * 64 + "...", "no-handler"),
     ]
+
+
+def write_lines(rows: list[tuple[bytes, bytes, str, str]]) -> list[str]:
+    return [f"write={shown} bytes={len(text)} outcome={outcome}" for _, text, shown, outcome in rows]
+
+
+def writes() -> None:
+    """Checks the lines of writes, with each outcome, and the escapes in names."""
+    rows = write_rows(65_000)
     with Logged("--live") as router:
         talk(router.port, b"".join(written(name, text) for name, text, _, _ in rows) + b"QUIT\n")
         # The bytes of an end of line end the command, so they are in no name.
         talk(router.port, b"WRITE c.reset_counts\nWRITE x\n2026-01-01T00:00:00.000Z session=9 begins slot=1\nWRITE y\r")
-        lines = [f"write={shown} bytes={len(text)} outcome={outcome}" for _, text, shown, outcome in rows]
         wanted = [
-            [*lines, f"ends cause=quit reads=0 writes={len(rows)} checks=0 failed=0"],
+            [*write_lines(rows), f"ends cause=quit reads=0 writes={len(rows)} checks=0 failed=0"],
             [
                 "write=c.reset_counts bytes=0 outcome=done",
                 "write=x bytes=0 outcome=no-handler",
@@ -228,6 +288,38 @@ def writes() -> None:
             ],
         ]
         same_lines(wanted, router)
+
+
+def page_writes() -> None:
+    """Checks the lines of writes by the page. In its names each byte can come."""
+    ends = b"x\n2026-01-01T00:00:00.000Z page write=y bytes=0 outcome=done\r\n"
+    shown = r"x\x0a2026-01-01T00:00:00.000Z\x20page\x20write\x3dy\x20bytes\x3d0\x20outcome\x3ddone\x0d\x0a"
+    rows = [*write_rows(1_000), (ends, b"", shown, "no-element")]
+    with Paged("--live") as router:
+        for name, text, _, outcome in rows:
+            same(outcome == "done", router.write(name, text) == {"done": True}, f"a write of {name!r:.80} is done")
+        router.write(b"hotconfig", b"Idle -> Discard")
+        router.same_page_lines([*write_lines(rows), "swap bytes=15 outcome=installed"])
+
+
+def page_reads() -> None:
+    """Checks that reads of the page are not logged, nor writes of a read-only page or foreign ones."""
+    with Paged("--live", "--readonly") as router:
+        same(403, int(talk(router.page, foreign_post(router.page)).split()[1]), "the status of a foreign write")
+        same(530, router.write(b"c.reset_counts", b"").get("fault"), "the fault of a write")
+        same(530, router.post("/swap", OTHER_TEXT.encode()).get("fault"), "the fault of a swap")
+        for target in ("/flat", "/read?handler=c.count", "/metrics"):
+            talk(router.page, f"GET {target} HTTP/1.1\r\nHost: 127.0.0.1:{router.page}\r\nConnection: close\r\n\r\n".encode())
+        router.same_page_lines([])
+    with Paged("--live") as router:
+        talk(router.page, foreign_post(router.page))
+        same({"done": True}, router.write(b"c.reset_counts", b""), "a write after a foreign one")
+        router.same_page_lines(["write=c.reset_counts bytes=0 outcome=done"])
+
+
+def foreign_post(port: int) -> bytes:
+    """Returns a write as the page of another site could send it: without the header of the page."""
+    return f"POST /write?handler=s.switch HTTP/1.1\r\nHost: 127.0.0.1:{port}\r\nConnection: close\r\nContent-Length: 1\r\n\r\n1".encode()
 
 
 def readonly() -> None:
@@ -252,15 +344,30 @@ def full() -> None:
             raise Wrong(f"the end of a session at a full book: {lines[-1]!r}")
 
 
+def page_full() -> None:
+    """Checks the line of a write of the page that fails because the router's book is full."""
+    with Paged("-w", str(DRIVERS), "--rounds", str(ROUNDS)) as router:
+        full_book = {"fault": 520, "text": "520 History full\r\n"}
+        until(lambda: router.write(b"c.reset_counts", b"") == full_book, "the book is not full", 60)
+        lines = router.lines()[PAGE]
+        same({"write=c.reset_counts bytes=0 outcome=done"}, set(lines[:-1]), "the lines before the book is full")
+        same("write=c.reset_counts bytes=0 outcome=failed cause=history-full", lines[-1], "the line about a full book")
+
+
 def parallel() -> None:
-    """Checks that the lines of parallel sessions do not mix, and have the numbers of their sessions."""
+    """Checks that the lines of the page and of parallel sessions do not mix, and whose they are."""
 
     def writes_as(nth: int) -> None:
         talk(router.port, written(b"h%d.handler" % nth, b"x" * nth) * WRITES + b"QUIT\n")
 
-    with Logged("--live", slots=SESSIONS) as router:
-        all_at_once([lambda nth=nth: writes_as(nth) for nth in range(SESSIONS)])
+    def writes_on_page() -> None:
+        for _ in range(WRITES):
+            router.write(b"page.handler", b"")
+
+    with Paged("--live", slots=SESSIONS) as router:
+        all_at_once([writes_on_page, *(lambda nth=nth: writes_as(nth) for nth in range(SESSIONS))])
         found = router.lines(in_order=False)
+        same(["write=page.handler bytes=0 outcome=no-element"] * WRITES, found.pop(PAGE, None), "the lines of the page")
         same(SESSIONS, len(found), "the number of sessions")
         who = []
         for first, *lines, last in found.values():
@@ -295,6 +402,13 @@ def without() -> None:
         same((b"", b""), (out, said), f"the outputs with {options}")
 
 
+def page_without() -> None:
+    """Checks that without --log no line is printed of a page."""
+    with Paged("--live", is_on=False) as router:
+        same({"done": True}, router.write(b"c.reset_counts", b""), "a write of the page without --log")
+        router.same_page_lines([])
+
+
 def unwritable() -> None:
     """Checks that sessions and the status are the same if no line can be written."""
     with open("/dev/full", "wb") as full_device, open("/dev/null", "rb") as only_read:
@@ -319,7 +433,10 @@ def serves_with(what: str, error_output: int) -> None:
             process.kill()
 
 
-CASES = {case.__name__: case for case in (ends, unread, swaps, writes, readonly, full, parallel, without, unwritable)}
+CASES = {
+    case.__name__: case
+    for case in (ends, unread, swaps, page_swaps, writes, page_writes, readonly, page_reads, full, page_full, parallel, without, page_without, unwritable)
+}
 
 
 def main(words: list[str]) -> int:

@@ -372,16 +372,24 @@ wrong_service() {
 
 # wrong_log: lines of --log that are left out, wrong, mixed, forged or not asked for.
 wrong_log() {
+    local page_line='echo "$(date -u +%FT%T.%3NZ) page write=c.reset_counts bytes=0 outcome=done" >&2'
     log_wrong ends 'another cause' 'the lines of session 1' "$(retold 's/cause=quit/cause=end-of-input/')"
     log_wrong ends 'another number' 'the numbers of sessions' "$(retold 's/session=2/session=3/')"
     log_wrong ends 'a time of another year' 'the time is not' "$(retold 's/^2/1/')"
     log_wrong swaps 'a swap that is left out' 'the lines of session 1' "$(retold '/outcome=installed/d')"
     log_wrong swaps 'another position of a fault' 'the lines of session 1' "$(retold 's/ at 1:9/ at 1:8/')"
+    log_wrong page_swaps 'a swap of the page that is left out' 'the lines of the page' "$(retold '/page swap.*installed/d')"
+    log_wrong page_swaps 'a swap of the page as one of a session' 'the lines of the page' "$(retold 's/ page / session=1 /')"
     log_wrong writes 'a name with the end of a line' 'not a line of the log' "$(retold 's/\\x0b/\n/')"
+    log_wrong page_writes 'a name of the page with the end of a line' 'not a line of the log' "$(retold 's/\\x0a/\n/')"
+    log_wrong page_writes 'another outcome' 'the lines of the page' "$(retold 's/outcome=no-element/outcome=no-handler/')"
     log_wrong readonly 'writes though it may only read' 'the lines of session 1' "$writes"
+    log_wrong page_reads 'a line that no write has' 'the lines of the page' "$page_line" 'exec "$program" "$@"'
     log_wrong full 'another cause of a failed call' 'about a full book' "$(retold 's/history-full/no-memory/')"
+    log_wrong page_full 'another cause of a failed call of the page' 'about a full book' "$(retold 's/history-full/no-memory/')"
     log_wrong parallel 'two lines in one' 'not a line of the log' "$(retold 'N;s/\n//')"
     log_wrong without 'a line without --log' 'the outputs' 'echo junk >&2' 'exec "$program" "$@"'
+    log_wrong page_without 'a line of the page without --log' 'the lines of the page' "$page_line" 'exec "$program" "$@"'
     log_wrong unwritable 'an end if no line can be written' 'refused' 'if ! echo > /dev/stderr; then exit 4; fi' 'exec "$program" "$@"'
 }
 

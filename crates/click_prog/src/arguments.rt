@@ -46,7 +46,8 @@ pub struct Options<'a> {
     /// The time after which a session over TCP ends if its client keeps it waiting, in seconds (0 to
     /// 86,400). 0 means never.
     pub idle: u64,
-    /// Whether sessions over TCP are logged on standard error. It is `false` without `port`.
+    /// Whether sessions over TCP, and writes of the page, are logged on standard error. It is `false`
+    /// without `port`.
     pub log: bool,
     /// Whether a picture is drawn, and no session served.
     pub draw: bool,
@@ -199,7 +200,7 @@ const OPTIONS: [CommandOption; 15] = [
         id: "log",
         name: OptionName::Long("log"),
         takes: Takes::Nothing,
-        help: "With -p: print a line on standard error for each session that begins or ends, each swap and each other write",
+        help: "With -p: print a line on standard error for each session that begins or ends, and for each swap and each other write of a session or the page",
     },
     CommandOption {
         id: "front",

@@ -9,6 +9,7 @@ ghost use Rattle.click_prog.specs.Statuses.{opening_status, sessions_status};
 ghost use Rattle.click_workers.specs.Linked.{AreQuiet, IsTrueOpening};
 
 use crate::counts::{Ending, tell_counts, tell_on};
+use crate::log::PageLog;
 use crate::paging::Paging;
 use crate::process_figures::ProcessFigures;
 use crate::serving::{Arrivals, RunSetup, clients_of};
@@ -38,7 +39,8 @@ pub struct OpenLinks {
 }
 
 /// Serves sessions that come in at a door over a live router, with drivers, links, and a page if
-/// there is one. The page's metrics end with these figures and the counts of the links.
+/// there is one. The page's metrics end with these figures and the counts of the links, and its
+/// writes are logged.
 ///
 /// Each session slot serves as many sessions as `arrivals` says, one after another. Writes the
 /// fault of a refused text to standard error, and the counts of links at their interval and at the
@@ -51,6 +53,7 @@ pub fn serve_linked<T: Handlers + Send + Drop, D: Door, R: Threads + Wait + Sync
     arrivals: Arrivals<D, OpenGate>,
     opened_links: OpenLinks,
     page: Option<HttpListener>,
+    page_log: &PageLog,
     figures: ProcessFigures,
 ) -> Status
     requires { 0 < arrivals.turns }
@@ -69,6 +72,7 @@ pub fn serve_linked<T: Handlers + Send + Drop, D: Door, R: Threads + Wait + Sync
         opened_links,
         devices.as_slice(),
         page,
+        page_log,
         figures,
     )
 }
@@ -83,6 +87,7 @@ fn serve_with_devices<T: Handlers + Send + Drop, D: Door, R: Threads + Wait + Sy
     opened_links: OpenLinks,
     devices: &[Device],
     page: Option<HttpListener>,
+    page_log: &PageLog,
     figures: ProcessFigures,
 ) -> Status
     requires turns { 0 < arrivals.turns }
@@ -105,6 +110,7 @@ fn serve_with_devices<T: Handlers + Send + Drop, D: Door, R: Threads + Wait + Sy
             let paging = Paging {
                 http_listener,
                 clock: host,
+                page_log,
                 readonly: setup.plan.readonly,
                 figures: figures.with_links(devices),
             };

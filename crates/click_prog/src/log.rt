@@ -1,4 +1,4 @@
-//! The log of sessions over TCP on standard error.
+//! The log of sessions over TCP, and of the page, on standard error.
 
 use crate::log_line::LogLine;
 use crate::session_counts::SessionCounts;
@@ -10,8 +10,7 @@ use std::io::Write;
 
 /// Counts the sessions of a run, and logs what they do if that is asked for.
 ///
-/// A line is written with one write, so that lines of several threads do not mix. Its session waits
-/// for the write. A failed write does not affect the run.
+/// A session waits for the write of each of its lines.
 #[derive(Drop)]
 pub struct SessionLog<'a> {
     host: &'a HostRuntime,
@@ -29,14 +28,11 @@ impl<'a> SessionLog<'a> {
         }
     }
 
-    /// Returns a line with the time. If the clock cannot be read, the line has no time.
+    /// Returns a line of this session.
     fn line(&self, session: u64) -> LogLine {
-        LogLine::begin(Timestamp::now(self.host).ok(), session)
-    }
-
-    fn write(&self, mut line: LogLine) {
-        // A failed write does not affect the run.
-        let _ = self.host.stderr().write_all(line.ended());
+        let mut line = line_of_now(self.host);
+        line.push_number(" session=", session);
+        line
     }
 }
 
@@ -48,7 +44,7 @@ impl<'a> Observer for SessionLog<'a> {
         }
         let mut line = self.line(number);
         line.push_number(" begins slot=", slot as u64);
-        self.write(line);
+        write_line(self.host, line);
         Some(SessionRecord::new(number))
     }
 
@@ -58,13 +54,12 @@ impl<'a> Observer for SessionLog<'a> {
         summary: &CallSummary,
         answered: &Result<StoredReply, AskFault>,
     ) {
-        if !matches!(summary.kind, CallKind::Swap | CallKind::Write) {
+        if !summary.kind.is_write() {
             return;
         }
         let mut line = self.line(record.number);
-        push_write(&mut line, summary);
-        push_outcome(&mut line, summary.kind, answered);
-        self.write(line);
+        push_write(&mut line, summary, answered);
+        write_line(self.host, line);
     }
 
     fn session_ends(&self, ended: &Result<Ended, ServeFault>, record: Option<&SessionRecord>) {
@@ -79,12 +74,57 @@ impl<'a> Observer for SessionLog<'a> {
         line.push_number(" writes=", record.writes);
         line.push_number(" checks=", record.checks);
         line.push_number(" failed=", record.failed);
-        self.write(line);
+        write_line(self.host, line);
     }
 }
 
-/// Appends what was written: the name of the handler, unless it is a swap, and the number of bytes.
-fn push_write(line: &mut LogLine, summary: &CallSummary) {
+/// Logs the swaps and other writes of the page, if that is asked for.
+///
+/// The page waits for the write of each line.
+#[derive(Drop)]
+pub struct PageLog<'a> {
+    host: &'a HostRuntime,
+    /// Whether lines are written.
+    is_on: bool,
+}
+
+impl<'a> PageLog<'a> {
+    pub fn new(host: &'a HostRuntime, is_on: bool) -> PageLog<'a> {
+        PageLog { host, is_on }
+    }
+}
+
+impl<'a> Observer for PageLog<'a> {
+    fn call_answered(
+        &self,
+        _record: &SessionRecord,
+        summary: &CallSummary,
+        answered: &Result<StoredReply, AskFault>,
+    ) {
+        if !self.is_on || !summary.kind.is_write() {
+            return;
+        }
+        let mut line = line_of_now(self.host);
+        line.push(" page");
+        push_write(&mut line, summary, answered);
+        write_line(self.host, line);
+    }
+}
+
+/// Returns a line with the time. If the clock cannot be read, the line has no time.
+fn line_of_now(host: &HostRuntime) -> LogLine {
+    LogLine::begin(Timestamp::now(host).ok())
+}
+
+/// Writes a line with one write, so that lines of several threads do not mix. A failed write does
+/// not affect the run.
+fn write_line(host: &HostRuntime, mut line: LogLine) {
+    let _ = host.stderr().write_all(line.ended());
+}
+
+/// Appends what was written, and the outcome: the name of the handler, unless it is a swap, and the
+/// number of bytes.
+fn push_write(line: &mut LogLine, summary: &CallSummary, answered: &Result<StoredReply, AskFault>) {
     if summary.kind == CallKind::Swap {
         line.push(" swap");
     } else {
@@ -95,6 +135,7 @@ fn push_write(line: &mut LogLine, summary: &CallSummary) {
         }
     }
     line.push_number(" bytes=", summary.bytes as u64);
+    push_outcome(line, summary.kind, answered);
 }
 
 /// Appends the outcome of a write or a swap.

@@ -13,15 +13,15 @@ const MAX_LINE_BYTES: usize = 1_024;
 /// The maximum number of bytes of a fault. The rest is left out.
 const MAX_FAULT_BYTES: usize = 160;
 
-/// A line of the log: the time, the session's number, and what happened, as `key=value` words.
+/// A line of the log: the time, whose event it is, and what happened, as `key=value` words.
 #[derive(Drop)]
 pub struct LogLine {
     bytes: ArrayVec<u8, MAX_LINE_BYTES>,
 }
 
 impl LogLine {
-    /// Returns a line of this session. Without a time it begins with `-`.
-    pub fn begin(time: Option<Timestamp>, session: u64) -> LogLine {
+    /// Returns a line that begins with this time, or with `-` without a time.
+    pub fn begin(time: Option<Timestamp>) -> LogLine {
         let mut line = LogLine {
             bytes: ArrayVec::new(),
         };
@@ -30,7 +30,6 @@ impl LogLine {
             Some(time) => drop(write!(line.bytes, "{time:.3}")),
             None => line.push("-"),
         }
-        line.push_number(" session=", session);
         line
     }
 

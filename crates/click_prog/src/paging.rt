@@ -3,6 +3,7 @@
 ghost use Rattle.std.specs.Prelude.{◌≡◌, ◌<◌};
 ghost use Rattle.click_prog.specs.Paging.{IsPagedOver, PagedRunTo, room_of, rounds_of};
 
+use crate::log::PageLog;
 use crate::serving::{Arrivals, RunSetup, clients_of, conclude, refuse};
 use click_cli::Status;
 use click_control::Port;
@@ -12,7 +13,7 @@ use click_page::{Figures, Page};
 use click_router::Handlers;
 use click_streams::{Sink, Source};
 use click_workers::{
-    Companion, CompanionRan, Door, Gate, MAX_ENTRIES, OpenGate, Opening, SeatPort,
+    Companion, CompanionRan, Door, Gate, MAX_ENTRIES, ObservedPort, OpenGate, Opening, SeatPort,
     run_with_companion,
 };
 use std::alloc::Global;
@@ -21,12 +22,13 @@ use std::sync::atomic::AtomicBool;
 use std::thread::Threads;
 use std::time::Clock;
 
-/// The page that shows the router in a browser: its listener, its clock, whether it may only read,
-/// and the figures that its metrics end with.
+/// The page that shows the router in a browser. It has a listener, a clock, the log of its writes,
+/// whether it may only read, and the figures that its metrics end with.
 #[derive(Drop)]
 pub struct Paging<'a, C, F> {
     pub http_listener: HttpListener,
     pub clock: &'a C,
+    pub page_log: &'a PageLog<'a>,
     pub readonly: bool,
     pub figures: F,
 }
@@ -52,6 +54,7 @@ impl<'a, T: Handlers + Send + Drop, C: Clock + Sync, F: Figures + Send + Drop> C
         let Paging {
             http_listener,
             clock,
+            page_log,
             readonly,
             figures,
         } = self;
@@ -62,6 +65,7 @@ impl<'a, T: Handlers + Send + Drop, C: Clock + Sync, F: Figures + Send + Drop> C
             alloc,
             http_listener,
             port,
+            page_log,
             readonly,
             figures,
             stop,
@@ -70,13 +74,14 @@ impl<'a, T: Handlers + Send + Drop, C: Clock + Sync, F: Figures + Send + Drop> C
     }
 }
 
-/// Serves a page over a port until `stop` is set.
+/// Serves a page over a port until `stop` is set. Its writes are logged.
 fn serve_page<P: Port, C: Clock, F: Figures + Drop, R: Wait>(
     rt: &R,
     clock: &C,
     alloc: Global,
     http_listener: HttpListener,
     port: P,
+    page_log: &PageLog,
     readonly: bool,
     figures: F,
     stop: &AtomicBool,
@@ -84,9 +89,11 @@ fn serve_page<P: Port, C: Clock, F: Figures + Drop, R: Wait>(
     ensures { IsPagedOver P.asks readonly http_listener.port port result.1 }
 {
     let at = http_listener.port();
-    let mut page = Page::new(alloc, port, readonly, at, figures);
+    let observed = ObservedPort::of_page(port, page_log);
+    let mut page = Page::new(alloc, observed, readonly, at, figures);
     let ended = serve_until(rt, clock, alloc, http_listener, &mut page, stop);
-    (ended, page.into_port())
+    let observed = page.into_port();
+    (ended, observed.into_port())
 }
 
 /// Returns the room of a run's book, or `None` for a live router, which keeps no book.
@@ -104,7 +111,7 @@ fn rounds_of(live: bool, rounds: u64) -> Option<u64>
 }
 
 /// Serves sessions that come in at a door, with drivers and a page, over a router of the text. The
-/// page's metrics end with these figures.
+/// page's metrics end with these figures, and its writes are logged.
 ///
 /// Each session slot serves as many sessions as `arrivals` says. Writes the reports of the run to
 /// standard error.
@@ -120,6 +127,7 @@ pub fn serve_paged<
     setup: RunSetup,
     arrivals: Arrivals<D, OpenGate>,
     http_listener: HttpListener,
+    page_log: &PageLog,
     figures: F,
 ) -> Status
     requires { 0 < arrivals.turns }
@@ -134,6 +142,7 @@ pub fn serve_paged<
     let paging = Paging {
         http_listener,
         clock: host,
+        page_log,
         readonly: plan.readonly,
         figures,
     };

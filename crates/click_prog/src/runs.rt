@@ -8,7 +8,7 @@ ghost use Rattle.click_prog.specs.Serving.{ServesTo, ServesFrom, is_alone, turns
 
 use crate::doors::Standard;
 use crate::linking::{OpenLinks, serve_linked};
-use crate::log::SessionLog;
+use crate::log::{PageLog, SessionLog};
 use crate::paging::serve_paged;
 use crate::process_figures::ProcessFigures;
 use crate::serving::{Arrivals, Plan, RunSetup, serve_all, serve_live, session};
@@ -167,20 +167,26 @@ fn serve_source<T: Handlers + Send + Drop, R: Threads + Wait + Sync>(
         SessionSource::Standard => {
             let door = Standard::new(host.stdin(), host.stdout());
             let arrivals = Arrivals::open(&door, 1);
-            serve_at(rt, host, table, setup, arrivals, links, page, &sessions)
+            let page_log = PageLog::new(host, false);
+            serve_at(
+                rt, host, table, setup, arrivals, links, page, &page_log, &sessions,
+            )
         }
         SessionSource::Over(listener, idle_limit, logged) => {
             let log = SessionLog::new(host, &sessions, logged);
             let door = Listening::new(listener, idle_limit, host, &log);
             let turns = turns_of(links.is_some() || setup.plan.live);
             let arrivals = Arrivals::open(&door, turns);
-            serve_at(rt, host, table, setup, arrivals, links, page, &sessions)
+            let page_log = PageLog::new(host, logged);
+            serve_at(
+                rt, host, table, setup, arrivals, links, page, &page_log, &sessions,
+            )
         }
     }
 }
 
 /// Serves sessions that come in at a door, with links and a page if these are opened. The metrics of
-/// the page have these counts.
+/// the page have these counts, and its writes are logged.
 fn serve_at<T: Handlers + Send + Drop, D: Door, R: Threads + Wait + Sync>(
     rt: &R,
     host: &HostRuntime,
@@ -189,6 +195,7 @@ fn serve_at<T: Handlers + Send + Drop, D: Door, R: Threads + Wait + Sync>(
     arrivals: Arrivals<D, OpenGate>,
     links: Option<OpenLinks>,
     page: Option<HttpListener>,
+    page_log: &PageLog,
     sessions: &SessionCounts,
 ) -> Status
     requires { 0 < arrivals.turns }
@@ -205,6 +212,7 @@ fn serve_at<T: Handlers + Send + Drop, D: Door, R: Threads + Wait + Sync>(
             arrivals,
             opened_links,
             page,
+            page_log,
             figures,
         ),
         None => match page {
@@ -215,6 +223,7 @@ fn serve_at<T: Handlers + Send + Drop, D: Door, R: Threads + Wait + Sync>(
                 setup,
                 arrivals,
                 http_listener,
+                page_log,
                 figures,
             ),
             None if setup.plan.live => serve_live(rt, host, table, setup, arrivals),

@@ -28,6 +28,7 @@ pub use door::Door;
 pub use gate::{Gate, OpenGate};
 pub use linked::{LinkEnd, LinkSetup, LinkedRan, run_linked, run_linked_with_companion};
 pub use listening::Listening;
+pub use observed_port::ObservedPort;
 pub use observer::{CallKind, CallSummary, MAX_NAME_BYTES, NoObserver, Observer, SessionRecord};
 pub use opening::Opening;
 pub use runs::{

@@ -8,11 +8,12 @@ use click_router::{Call, StoredReply};
 use std::alloc::Global;
 use std::marker::Model;
 
-/// The port of a session that is observed. Its value in contracts is the port.
-pub(crate) struct ObservedPort<'a, P, O> {
+/// The port of a session or of a page, whose calls are reported to an observer. Its value in
+/// contracts is the port.
+pub struct ObservedPort<'a, P, O> {
     port: P,
     observer: &'a O,
-    /// The session's record, if its calls are observed.
+    /// The record of the session or page, if its calls are observed.
     record: Option<SessionRecord>,
 }
 
@@ -45,6 +46,30 @@ impl<'a, P, O: Observer> ObservedPort<'a, P, O> {
             record,
         } = self;
         observer.session_ends(ended, record.as_ref());
+        port
+    }
+
+    /// Returns the port of a page. Its calls are reported, but no begin and no end. Its record has
+    /// the number 0, which no session has.
+    pub fn of_page(port: P, observer: &'a O) -> ObservedPort<'a, P, O>
+        ensures { result ≡ port }
+    {
+        ObservedPort {
+            port,
+            observer,
+            record: Some(SessionRecord::new(0)),
+        }
+    }
+
+    /// Returns the port that it was made from, and reports nothing.
+    pub fn into_port(self) -> P
+        ensures { result ≡ self.entry }
+    {
+        let ObservedPort {
+            port,
+            observer: _,
+            record: _,
+        } = self;
         port
     }
 }

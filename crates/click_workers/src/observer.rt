@@ -1,4 +1,5 @@
-//! Observers of sessions: what is reported when a session begins, makes a call, and ends.
+//! Observers of sessions and pages: what is reported when a session begins, makes a call, and ends,
+//! and when a page makes a call.
 
 use arrayvec::ArrayVec;
 use click_control::{AskFault, Ended, ServeFault};
@@ -7,9 +8,9 @@ use click_router::{Call, StoredReply};
 /// The maximum number of bytes of a handler's name in a summary.
 pub const MAX_NAME_BYTES: usize = 64;
 
-/// What is notified of sessions. No contract mentions it.
+/// What is notified of sessions, or of a page. No contract mentions it.
 ///
-/// The thread of each session calls it, and the session waits until it returns. Without an
+/// The thread of each session or page calls it, and waits until it returns. Without an
 /// implementation nothing is observed.
 pub trait Observer: Sync {
     /// Called when a session begins in the session slot `slot`, from 1. Returns the record in which
@@ -19,7 +20,7 @@ pub trait Observer: Sync {
         None
     }
 
-    /// Called when a call of a session is answered, before the session writes its reply. The record
+    /// Called when a call of a session or page is answered, before the reply is written. The record
     /// counts this call too.
     fn call_answered(
         &self,
@@ -38,7 +39,7 @@ pub struct NoObserver;
 
 impl Observer for NoObserver {}
 
-/// The kind of a call that a session makes.
+/// The kind of a call that a session or page makes.
 #[derive(Clone, Copy, Debug, PartialEq, Eq)]
 pub enum CallKind {
     Read,
@@ -48,8 +49,15 @@ pub enum CallKind {
     Swap,
     /// Any other write.
     Write,
-    /// A call that no session makes.
+    /// A call that no session and no page makes.
     Other,
+}
+
+impl CallKind {
+    /// Returns whether the call is a swap or another write.
+    pub fn is_write(self) -> bool {
+        matches!(self, CallKind::Swap | CallKind::Write)
+    }
 }
 
 /// What is reported of a call. It is made before the call, and without an allocation.
