@@ -13,6 +13,7 @@ pub mod calls;
 mod counts;
 mod doors;
 mod drawing;
+mod keep_alive;
 mod link;
 mod link_count;
 mod linking;
@@ -35,6 +36,7 @@ use calls::run_calls;
 use click_cli::{Status, refuse_arguments, words_of};
 use click_handlers::with_table;
 use drawing::draw;
+use keep_alive::keep_alive;
 use link::{Link, LinkFault};
 use linking::OpenLinks;
 use mode::{Mode, mode_of};
@@ -115,6 +117,10 @@ fn serve<R: Threads + Wait + Net<Listener = TcpListener, Stream = TcpStream> + S
         None => SessionSource::Standard,
         Some(port) => match TcpListener::bind(rt, address_of(port)) {
             Ok(listener) => {
+                if !keep_alive(&listener) {
+                    // A failed write does not affect the run.
+                    let _ = eprintln!(host; "click_prog: sessions: TCP keepalive cannot be set");
+                }
                 SessionSource::Over(listener, idle_limit_of(options.idle), options.log)
             }
             Err(fault) => return refuse_port(host, setup.text, "sessions", port, &fault),
