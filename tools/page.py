@@ -4,7 +4,8 @@ foreign hosts, writes without the header, and slow, large and many requests, whi
 answered, and its metrics by a parser of their format. The metrics have the counts of sessions and
 links, and the memory of the process. The flat form and the picture are those of the running
 configuration, and are made once. Also where the page listens, large answers to clients that read
-slowly or close, connections that wait, and a run that ends with its session. In the browser: the
+slowly or close, and connections that wait. A run ends with its session, and answers what it has
+read. In the browser: the
 picture, live counters, a write that a session sees, and swaps by the page and by a session. Also a
 mesh of 4,000 elements: what is drawn and read of it, the time of a click, and the processor time of
 an idle page. And a Prometheus scrapes the page and answers queries.
@@ -191,14 +192,14 @@ class Session:
 
 
 class Answer:
-    """An HTTP response: its status, its header fields in order, and its body."""
+    """An HTTP response: its status, its reason phrase, its header fields in order, and its body."""
 
     def __init__(self, came):
         head, _, self.body = came.partition(b"\r\n\r\n")
         first, *lines = head.decode("latin-1").split("\r\n")
         if not re.match(r"HTTP/1\.1 \d{3}( |$)", first):
             raise Wrong(f"not an HTTP response: {came[:200]!r}")
-        self.status = int(first[9:12])
+        self.status, self.reason = int(first[9:12]), first[13:]
         self.fields = [(name.lower(), value.strip()) for name, _, value in (line.partition(":") for line in lines)]
 
     def field(self, name):
@@ -270,7 +271,7 @@ def policy_of(page):
 
 def is_page(client):
     answer = client.ask("/")
-    same(200, answer.status, "GET /")
+    same((200, "OK"), (answer.status, answer.reason), "GET /")
     same(["text/html; charset=utf-8"], answer.field("content-type"), "its type")
     same(text_of("crates/click_page/page/page.html").encode(), answer.body, "the page")
 
@@ -443,6 +444,7 @@ def lets_nobody_in(client):
 
 
 def refuses_garbage(client):
+    """Checks what is no request, while another connection waits, which is answered afterwards."""
     own = f"host: 127.0.0.1:{client.router.page}\r\n".encode()
     garbage = {
         "the first bytes of TLS": bytes.fromhex("16030100c8010000c40303") + b"\r\n\r\n",
@@ -453,8 +455,13 @@ def refuses_garbage(client):
         "two Hosts": b"GET / HTTP/1.1\r\n" + own + own + b"\r\n",
         "a field without a colon": b"GET / HTTP/1.1\r\n" + own + b"x\r\n\r\n",
     }
-    for what, sent in garbage.items():
-        same(400, client.send(sent).status, what)
+    with client.connect() as other:
+        time.sleep(0.3)
+        for what, sent in garbage.items():
+            answer = client.send(sent)
+            same((400, "Bad Request"), (answer.status, answer.reason), what)
+        other.sendall(b"GET /read?handler=version HTTP/1.1\r\n" + own + b"\r\n")
+        same([{"value": "1"}], answer_on(other).json(), "the answer on another connection")
 
 
 def limits_heads(client):
@@ -500,12 +507,14 @@ def ends_slow_heads(client):
 
 
 def limits_connections(client):
-    """Checks a 33rd connection while 32 have parts of requests."""
+    """Checks a 33rd connection while 32 have parts of requests: one that asks, and one that does not."""
     with contextlib.ExitStack() as all_of_them:
         for _ in range(32):
             all_of_them.enter_context(client.connect()).sendall(b"G")
         time.sleep(0.3)
         same(503, client.ask("/").status, "GET / over a 33rd connection")
+        answer = client.send(b"")
+        same((503, "Service Unavailable"), (answer.status, answer.reason), "a 33rd connection without a request")
     until(lambda: client.ask("/").status == 200, "the page is answered once the others have gone")
 
 
@@ -576,7 +585,8 @@ def try_sockets(tally, router, session):
         tally.check(what, act, client)
 
 
-# ---- By sockets: the figures of the process, and what is made once; each with a router of its own
+# ---- By sockets: the figures of the process, what is made once, and the end of a run; each with a
+# router of its own
 
 
 def metrics_of(client):
@@ -684,11 +694,52 @@ def keeps_made(command):
         same(before, made(), "the second ones after a swap back")
 
 
+def unread(router, peer):
+    """Returns the number of bytes that a client has sent and the router has not read."""
+    here, there, count = peer.getsockname()[1], router.page, 0
+    with open("/proc/net/tcp", encoding="ascii") as rows:
+        for row in list(rows)[1:]:
+            mine, other, _, queues = row.split()[1:5]
+            ports = tuple(int(it.split(":")[1], 16) for it in (mine, other))
+            sent, came = (int(it, 16) for it in queues.split(":"))
+            count += {(here, there): sent, (there, here): came}.get(ports, 0)
+    return count
+
+
+def waits_until_read(router, peer):
+    """Waits, for as short as possible, until the router has read all that a client has sent."""
+    ends = time.monotonic() + SECONDS
+    # Bytes that move from one queue to the other during a look are seen by the next one.
+    while unread(router, peer) or unread(router, peer):
+        if time.monotonic() > ends:
+            raise Wrong(f"in {SECONDS} s the router does not read a request")
+
+
+def answers_before_end(command):
+    """Checks that a run whose session ends while it makes a swap of the page answers that swap.
+
+    The session ends once the request has been read. A connection without a request gets nothing.
+    """
+    # The line ends make the swap take long.
+    text = SWAPPED.encode() + b"\n" * 1_000_000
+    for _ in range(3):
+        with Router(command, WATCHED, is_live=False) as router:
+            client, head = Client(router, None), f"POST /swap HTTP/1.1\r\nhost: 127.0.0.1:{router.page}\r\n{MARK}\r\ncontent-length: {len(text)}\r\n\r\n"
+            with client.connect() as idle, client.connect() as peer:
+                peer.sendall(head.encode() + text)
+                waits_until_read(router, peer)
+                out, _ = router.process.communicate(b"QUIT\n", timeout=3 * SECONDS)
+                same({"done": True}, Answer(received(peer)).json(), "the answer to a swap during which the session ends")
+                same(b"", received(idle), "what a connection without a request gets when the run ends")
+            same((b"Click::ControlSocket/1.3\r\n200 Goodbye!\r\n", 0), (out, router.process.returncode), "the output and the status of the run")
+
+
 FIGURES = {
     "/metrics counts the sessions": counts_sessions,
     "/metrics counts the datagrams of links": counts_links,
     "/metrics has the memory of the process": measures_memory,
     "the flat form and the picture are of the running configuration": keeps_made,
+    "a run that ends answers what it has read": answers_before_end,
 }
 
 
@@ -1259,6 +1310,8 @@ SEEN_BY = {
     "kept-picture": "the flat form and the picture are of the running configuration",
     "other-picture": "the flat form and the picture are of the running configuration",
     "fault-redraws": "the flat form and the picture are of the running configuration",
+    "lost-answer": "a run that ends answers what it has read",
+    "parting-words": "a run that ends answers what it has read",
     "bad-sample": "Prometheus scrapes the page",
     "still-metrics": "Prometheus sees a counter grow",
     "untyped": "Prometheus knows the types of the metrics",
@@ -1271,9 +1324,12 @@ SEEN_BY = {
     "any-query": "queries have 1 to 256 handlers",
     "slow-heads": "a slow head is ended",
     "takes-garbage": "garbage is refused",
+    "other-reasons": "garbage is refused",
+    "garbage-ends-all": "garbage is refused",
     "long-heads": "a long head is refused",
     "long-bodies": "a long body is refused",
     "many-connections": "a 33rd connection is refused",
+    "late-refusal": "a 33rd connection is refused",
     "no-room": "the connection that waited longest makes room",
     "other-room": "the connection that waited longest makes room",
     "stuck-sessions": "a control session answers meanwhile",

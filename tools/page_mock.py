@@ -5,6 +5,8 @@ pictures are stored, with numbers that change over time.
 
     page_mock.py -e TEXT --page PORT [-p PORT] [--readonly] [--wrong WHAT]
 
+Without -p it has one session on its standard input and output, and ends with it.
+
 It knows the configurations of tools/page_mock, examples/counter.click, examples/compounds.click and
 examples/calls/ip_router.click, and the mesh of tools/lib/mesh.py. All others have a fault, at the word `nowhere` or else at their end.
 With --wrong it is wrong in one point (WRONGS below), to show that tools/page.py checks this point.
@@ -56,12 +58,14 @@ LINK_COUNTS = ["received", "strangers", "too_long", "no_room", "no_memory", "ent
 MOST_HEAD, MOST_BODY, MOST_CONNECTIONS = 65536, 1048576, 32
 # Shorter than those of the router, so that tests are faster.
 SECONDS_FOR_A_HEAD, SECONDS_BETWEEN = 3, 30
+# How long a swap to a text of more than 100,000 bytes takes, so that a session can end meanwhile.
+SECONDS_FOR_A_LONG_TEXT = 0.5
 # The points in which the mock can be wrong. tools/page.py has to find each of them.
 WRONGS = """no-host-check no-target-check no-mark-check cors no-policy other-policy other-page no-method-check slow-heads takes-garbage long-heads long-bodies
 many-connections stuck-sessions other-element less-connections other-flat still-counter lost-write other-place no-place fault-installs no-redraw unseen-swap
 no-denial any-query empty-handler utf-8-names no-absolute-form capital-hosts no-allow no-head no-types less-metrics other-metrics all-gauges
 bad-sample still-metrics untyped no-room other-room no-figures figures-twice zero-sessions endless-sessions zero-links exchanged-links raw-labels
-memory-in-pages kept-flat kept-picture other-picture fault-redraws""".split()
+memory-in-pages kept-flat kept-picture other-picture fault-redraws other-reasons garbage-ends-all late-refusal lost-answer parting-words""".split()
 # Edits of the page: texts that occur once, each followed by its replacement.
 DRAWS_ALL = "isWhole = isAll || parts.length <= PARTS.whole", "isWhole = true"
 READS_ALL = "if (watches.reduce((sum, it) => sum + it.handlers.length, 2) <= MOST_HANDLERS) return watches;", "return watches;"
@@ -155,6 +159,8 @@ class Router:
 
         Line ends at the end of the text are ignored, because a shell removes them from arguments.
         """
+        if len(text) > 100_000:
+            time.sleep(SECONDS_FOR_A_LONG_TEXT)
         for file, picture in PICTURES.items():
             if file_text(file).rstrip() == text.rstrip():
                 return self.start(text, file_text(picture), lambda name, kind: text_in(text, name, kind))
@@ -295,7 +301,8 @@ class Page:
         if self.wrong == "cors":
             guards["access-control-allow-origin"] = "*"
         fields = {"content-type": kind, **guards, "content-length": len(body), **({"connection": "close"} if closes else {}), **dict(more)}
-        return f"HTTP/1.1 {status} {REASONS[status]}\r\n".encode() + b"".join(b"%s: %s\r\n" % (k.encode(), str(v).encode()) for k, v in fields.items()) + b"\r\n" + body
+        reason = "Refused" if self.wrong == "other-reasons" and status >= 400 else REASONS[status]
+        return f"HTTP/1.1 {status} {reason}\r\n".encode() + b"".join(b"%s: %s\r\n" % (k.encode(), str(v).encode()) for k, v in fields.items()) + b"\r\n" + body
 
     def refuse(self, status, line):
         return self.respond(status, "text/plain; charset=utf-8", line.encode() + b"\n")
@@ -410,6 +417,8 @@ class Page:
         self.make_room()
         with self.lock:
             if self.places == 0 and self.wrong != "many-connections":
+                if self.wrong == "late-refusal":
+                    peer.recv(1)
                 peer.sendall(self.respond(503, "text/plain; charset=utf-8", b"", True))
                 return False
             self.places -= 1
@@ -460,9 +469,20 @@ class Page:
         peer has read the response.
         """
         peer.sendall(self.respond(status, "text/plain; charset=utf-8", b"", True))
+        if self.wrong == "garbage-ends-all":
+            for other in list(self.waiting):
+                other.shutdown(socket.SHUT_RDWR)
         peer.shutdown(socket.SHUT_WR)
         while peer.recv(65536):
             pass
+
+    def end(self):
+        """Waits until each connection waits for a request, because the process ends then."""
+        if self.wrong == "parting-words":
+            for peer in list(self.waiting):
+                peer.sendall(self.respond(503, "text/plain; charset=utf-8", b"", True))
+        while len(self.waiting) < MOST_CONNECTIONS - self.places and self.wrong != "lost-answer":
+            time.sleep(0.01)
 
     def more(self, peer):
         piece = peer.recv(65536)
@@ -578,27 +598,30 @@ class Sessions:
         self.router, self.page, self.figures = router, page, figures
 
     def serve(self, peer):
+        with peer, peer.makefile("rwb") as it:
+            self.converse(it, it)
+
+    def converse(self, commands, replies):
         self.figures.begins()
         try:
-            self.converse(peer)
+            self.reply_to_all(commands, replies)
         finally:
             self.figures.ends()
 
-    def converse(self, peer):
-        with peer, peer.makefile("rwb") as it:
-            it.write(b"Click::ControlSocket/1.3\r\n")
-            it.flush()
-            while line := it.readline():
-                while self.page.wrong == "stuck-sessions" and self.page.places < 2:
-                    time.sleep(0.1)
-                word, _, rest = line.decode().strip().partition(" ")
-                handler, _, text = rest.partition(" ")
-                if word == "WRITEDATA":
-                    text = it.read(int(text)).decode()
-                it.write(self.reply(word, handler, text))
-                it.flush()
-                if word == "QUIT":
-                    return
+    def reply_to_all(self, commands, replies):
+        replies.write(b"Click::ControlSocket/1.3\r\n")
+        replies.flush()
+        while line := commands.readline():
+            while self.page.wrong == "stuck-sessions" and self.page.places < 2:
+                time.sleep(0.1)
+            word, _, rest = line.decode().strip().partition(" ")
+            handler, _, text = rest.partition(" ")
+            if word == "WRITEDATA":
+                text = commands.read(int(text)).decode()
+            replies.write(self.reply(word, handler, text))
+            replies.flush()
+            if word == "QUIT":
+                return
 
     def reply(self, word, handler, text):
         if word == "QUIT":
@@ -639,11 +662,15 @@ def main():
     router = Router(given.text, given.readonly, given.wrong)
     figures = Figures(given.slots, Links(given.links), given.wrong)
     page = Page(router, given.page, given.wrong, figures)
+    sessions = Sessions(router, page, figures)
     # A client that reaches the page reaches the sessions too.
     if given.port:
-        listen(given.port, Sessions(router, page, figures).serve)
+        listen(given.port, sessions.serve)
     listen(given.page, page.serve)
-    threading.Event().wait()
+    if given.port:
+        threading.Event().wait()
+    sessions.converse(sys.stdin.buffer, sys.stdout.buffer)
+    page.end()
 
 
 if __name__ == "__main__":

@@ -25,8 +25,6 @@ mod routers;
 #[cfg(test)]
 mod seats;
 #[cfg(test)]
-mod serving;
-#[cfg(test)]
 mod slots;
 #[cfg(test)]
 mod tables;
