@@ -12,19 +12,19 @@ an idle page. And a Prometheus scrapes the page and answers queries.
 
     tools/page.py [--part sockets|figures|connections|browser|large|prometheus] [--shots FOLDER] [PROGRAM [WORD..]]
     tools/page.py --mock [--wrong WHAT] [--part sockets|figures|browser|large|prometheus] [--shots FOLDER]
-    tools/page.py --part large --check WHAT ..
-    tools/page.py --wrongs [WHAT..]
+    tools/page.py [--mock [--wrong WHAT]] --check WHAT [PROGRAM [WORD..]]
+    tools/page.py --wrongs [WHAT|PART..]
 
 The router is started as PROGRAM WORD.. -e TEXT --live -p P -w 1 --page Q, and for one check
 without --live, -p and -w. If no program is given, it is the one that the variable PROGRAM names, or
 else the proved one. With --mock it is tools/page_mock.py, which --wrong makes wrong in one point.
 The part `connections` needs a program.
 
---check makes one check of the part `large`, after the page was opened.
+--check makes only this check, of any part but `browser`, whose checks come one after another.
 
---wrongs shows that the checks can fail. It makes the mock wrong in each point, or only in these.
-The check of that point has to fail. --shots writes screenshots of the page over four
-configurations.
+--wrongs shows that the checks can fail. It makes the mock wrong in each point, or only in these, or
+in those that a check of these parts sees. The check of that point has to fail, and has to pass over
+the mock that is not wrong. --shots writes screenshots of the page over four configurations.
 
 Chromium and Prometheus are Debian's (apt-get install chromium prometheus). Without Chromium the
 parts `browser` and `large` and the screenshots are left out, and without Prometheus the part
@@ -59,8 +59,8 @@ from outcome import SECONDS, Wrong, same, until  # noqa: E402
 from programs import path_of  # noqa: E402
 from prometheus import Prometheus  # noqa: E402
 
-# The maximum seconds until the router ends a slow request head.
-PATIENCE = 60
+# The maximum seconds until the router, and the mock, ends a slow request head.
+PATIENCE, PATIENCE_OF_MOCK = 60, 4 * page_mock.SECONDS_FOR_A_HEAD
 
 
 def text_of(path):
@@ -134,6 +134,7 @@ class Router:
 
     def __init__(self, command, text, *options, is_live=True):
         self.port, self.page = free_ports(2)
+        self.is_mock = f"{TOP}/tools/page_mock.py" in command
         live = ["--live", "-p", str(self.port), "-w", "1"] if is_live else []
         self.words = ["nice", "-n", "10", *command, "-e", text, *live, "--page", str(self.page), *options]
         self.pipes = {"stdin": subprocess.DEVNULL} if is_live else {"stdin": subprocess.PIPE, "stdout": subprocess.PIPE}
@@ -490,7 +491,8 @@ def limits_bodies(client):
 
 def ends_slow_heads(client):
     """Checks a head that is sent byte by byte, without a long pause."""
-    head, ends = f"GET / HTTP/1.1\r\nhost: 127.0.0.1:{client.router.page}\r\nx-slow: ".encode(), time.monotonic() + PATIENCE
+    patience = PATIENCE_OF_MOCK if client.router.is_mock else PATIENCE
+    head, ends = f"GET / HTTP/1.1\r\nhost: 127.0.0.1:{client.router.page}\r\nx-slow: ".encode(), time.monotonic() + patience
     with client.connect() as peer:
         peer.settimeout(0.5)
         peer.sendall(head)
@@ -503,7 +505,7 @@ def ends_slow_heads(client):
                 continue
             except ConnectionError:
                 return
-    raise Wrong(f"a head that comes slowly is not ended in {PATIENCE} s")
+    raise Wrong(f"a head that comes slowly is not ended in {patience} s")
 
 
 def limits_connections(client):
@@ -579,9 +581,14 @@ SOCKETS = {
 }
 
 
-def try_sockets(tally, router, session):
+def chosen(checks, only):
+    """Returns these checks, or only the one of this name."""
+    return {what: act for what, act in checks.items() if only in (None, what)}
+
+
+def try_sockets(tally, router, session, only):
     client = Client(router, session)
-    for what, act in SOCKETS.items():
+    for what, act in chosen(SOCKETS, only).items():
         tally.check(what, act, client)
 
 
@@ -743,8 +750,8 @@ FIGURES = {
 }
 
 
-def try_figures(tally, command):
-    for what, act in FIGURES.items():
+def try_figures(tally, command, only):
+    for what, act in chosen(FIGURES, only).items():
         tally.check(what, act, command)
 
 
@@ -1013,10 +1020,10 @@ CONNECTIONS = {
 
 
 @contextlib.contextmanager
-def connections_tried(tally, command):
+def connections_tried(tally, command, only):
     """Makes the checks of connections in threads, in parallel with what is done meanwhile."""
     with concurrent.futures.ThreadPoolExecutor(len(CONNECTIONS)) as pool:
-        tries = {what: pool.submit(act, command) for what, act in CONNECTIONS.items()}
+        tries = {what: pool.submit(act, command) for what, act in chosen(CONNECTIONS, only).items()}
         yield
         for what, it in tries.items():
             tally.check(what, it.result)
@@ -1048,14 +1055,13 @@ PROMETHEUS = {
 }
 
 
-def try_prometheus(tally, router):
-    program = shutil.which("prometheus")
-    if not program:
-        print("left out: the part prometheus, because prometheus is not installed (apt-get install prometheus)")
+def try_prometheus(tally, router, only):
+    if left_out("prometheus"):
         return
+    program = shutil.which("prometheus")
     scraper = Prometheus(program, *free_ports(1), router.page)
     try:
-        for what, act in PROMETHEUS.items():
+        for what, act in chosen(PROMETHEUS, only).items():
             tally.check(what, act, scraper)
     finally:
         scraper.close()
@@ -1283,7 +1289,12 @@ def take_shots(browser, command, folder):
 
 # ---- All of it
 
-PARTS = {"sockets": SOCKETS, "figures": FIGURES, "prometheus": PROMETHEUS, "large": large_page.CHECKS}
+# The checks of each part but `browser`.
+PARTS = {"sockets": SOCKETS, "figures": FIGURES, "connections": CONNECTIONS, "prometheus": PROMETHEUS, "large": large_page.CHECKS}
+# The program that a part needs besides the router's.
+NEEDS = {"prometheus": "prometheus", "browser": "chromium", "large": "chromium"}
+# The number of wrong mocks that are tried at the same time. Most of their time they wait.
+AT_ONCE = 4
 # For each point in which the mock can be wrong, the check that has to fail.
 SEEN_BY = {
     "no-host-check": "a foreign Host is refused",
@@ -1369,51 +1380,94 @@ SEEN_BY = {
 }
 
 
+def part_of(what):
+    """Returns the part that has a check."""
+    return next((part for part, checks in PARTS.items() if what in checks), "browser")
+
+
+def left_out(part):
+    """Returns whether a part is left out, because its program is not installed, and says so."""
+    program = NEEDS.get(part)
+    if not program or shutil.which(program):
+        return False
+    print(f"left out: the part {part}, because {program} is not installed (apt-get install {program})", flush=True)
+    return True
+
+
+def over_mock(what, wrong=None):
+    """Makes a check over the mock, and all of its part if that is `browser`; returns what came."""
+    part = part_of(what)
+    words = ["--part", part] if part == "browser" else ["--check", what]
+    return subprocess.run([sys.executable, __file__, "--mock", *(["--wrong", wrong] if wrong else []), *words], capture_output=True, text=True)
+
+
+def ended(did, status, line):
+    """Checks the status of a run of this script, and that it printed a line that begins so."""
+    if did.returncode != status or f"\n{line}" not in f"\n{did.stdout}":
+        raise Wrong(f"it ended with status {did.returncode} and printed {did.stdout[-1500:]}{did.stderr[-500:]}")
+
+
+def passes_over_mock(what):
+    ended(over_mock(what), 0, f"passed  {what}")
+
+
+def is_found_out(what, wrong):
+    ended(over_mock(what, wrong), 1, f"FAILED  {what}")
+
+
+def wrongs_of(names):
+    """Returns the points of these names, and of these parts, each with its check."""
+    if unknown := set(names) - set(SEEN_BY) - set(NEEDS) - set(PARTS):
+        raise Wrong(f"the mock cannot be wrong in {' '.join(sorted(unknown))}")
+    return {wrong: what for wrong, what in SEEN_BY.items() if not names or wrong in names or part_of(what) in names}
+
+
 def try_wrongs(names):
-    """Checks that the check of a point fails if the mock is wrong in it."""
+    """Checks that the check of a point fails if the mock is wrong in it, and only then."""
     tally = Tally()
     same(sorted(page_mock.WRONGS), sorted(SEEN_BY), "what the mock can be wrong in")
-    for wrong in names or SEEN_BY:
-        what = SEEN_BY[wrong]
-
-        def is_seen():
-            part = next((part for part, checks in PARTS.items() if what in checks), "browser")
-            only = ["--check", what] if part == "large" else []
-            did = subprocess.run([sys.executable, __file__, "--mock", "--wrong", wrong, "--part", part, *only], capture_output=True, text=True)
-            if did.returncode != 1 or f"FAILED  {what}" not in did.stdout:
-                raise Wrong(f"it ended with status {did.returncode} and printed {did.stdout[-1500:]}{did.stderr[-500:]}")
-
-        tally.check(f"a mock with {wrong} is found out by: {what}", is_seen)
+    wrongs = wrongs_of(names)
+    without = {part for part in sorted({part_of(it) for it in wrongs.values()}) if left_out(part)}
+    wrongs = {wrong: what for wrong, what in wrongs.items() if part_of(what) not in without}
+    # A browser takes a processor, and its checks measure time.
+    for at_once, is_browsed in ((AT_ONCE, False), (1, True)):
+        some = {wrong: what for wrong, what in wrongs.items() if (NEEDS.get(part_of(what)) == "chromium") == is_browsed}
+        with concurrent.futures.ThreadPoolExecutor(at_once) as pool:
+            tries = [(f"the right mock passes: {what}", pool.submit(passes_over_mock, what)) for what in dict.fromkeys(some.values())]
+            tries += [(f"a mock with {wrong} is found out by: {what}", pool.submit(is_found_out, what, wrong)) for wrong, what in some.items()]
+            for title, it in tries:
+                tally.check(title, it.result)
     return tally
 
 
 def try_all(command, given):
-    tally = Tally()
+    tally, only = Tally(), given.check
+    part = part_of(only) if only else given.part
     with contextlib.ExitStack() as beside:
-        if given.part == "connections" or not (given.mock or given.part):
-            beside.enter_context(connections_tried(tally, command))
-        if given.part in (None, "figures"):
-            try_figures(tally, command)
-        if given.part not in ("connections", "figures"):
-            try_router(tally, command, given)
+        if part == "connections" or not (given.mock or part):
+            beside.enter_context(connections_tried(tally, command, only))
+        if part in (None, "figures"):
+            try_figures(tally, command, only)
+        if part not in ("connections", "figures"):
+            try_router(tally, command, part, given)
     return tally
 
 
-def try_router(tally, command, given):
+def try_router(tally, command, part, given):
     """Makes the checks by sockets and in the browser, of one router."""
     with Router(command, WATCHED) as router:
         session = Session(router)
-        if given.part in (None, "sockets"):
-            try_sockets(tally, router, session)
-        if given.part in (None, "prometheus"):
-            try_prometheus(tally, router)
-        if given.part in (None, "browser"):
+        if part in (None, "sockets"):
+            try_sockets(tally, router, session, given.check)
+        if part in (None, "prometheus"):
+            try_prometheus(tally, router, given.check)
+        if part in (None, "browser"):
             with browser_of("browser") as browser:
                 if browser:
                     try_browser(tally, browser, router, session, command)
                 if browser and given.shots:
                     take_shots(browser, command, given.shots)
-    if given.part in (None, "large"):
+    if part in (None, "large"):
         # It measures times, so it does not give way to others as much.
         with browser_of("large", nice=0) as browser:
             if browser:
@@ -1423,12 +1477,10 @@ def try_router(tally, command, given):
 @contextlib.contextmanager
 def browser_of(part, nice=15):
     """Yields a browser for a part of the checks, or None if Chromium is not installed."""
-    program = shutil.which("chromium")
-    if not program:
-        print(f"left out: the part {part}, because chromium is not installed (apt-get install chromium)")
+    if left_out(part):
         yield None
         return
-    browser = Browser(program, nice)
+    browser = Browser(shutil.which("chromium"), nice)
     try:
         yield browser
     finally:
@@ -1440,8 +1492,8 @@ def main():
     words.add_argument("--mock", action="store_true")
     words.add_argument("--wrong", choices=page_mock.WRONGS)
     words.add_argument("--wrongs", nargs="*", metavar="WHAT")
-    words.add_argument("--part", choices=["sockets", "figures", "connections", "browser", "large", "prometheus"])
-    words.add_argument("--check", choices=large_page.CHECKS, metavar="WHAT")
+    words.add_argument("--part", choices=[*PARTS, "browser"])
+    words.add_argument("--check", choices=[what for checks in PARTS.values() for what in checks], metavar="WHAT")
     words.add_argument("--shots")
     words.add_argument("command", nargs=argparse.REMAINDER)
     given = words.parse_args()

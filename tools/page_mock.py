@@ -19,6 +19,7 @@ import json
 import math
 import os
 import re
+import select
 import socket
 import sys
 import threading
@@ -405,7 +406,11 @@ class Page:
             if self.places or not self.waiting or self.wrong in ("no-room", "many-connections"):
                 return
             choose = max if self.wrong == "other-room" else min
-            longest = choose(self.waiting, key=self.waiting.get)
+            # A request may have come that its thread has not seen yet.
+            waiting = {it: since for it, since in list(self.waiting.items()) if not select.select([it], [], [], 0)[0]}
+            if not waiting:
+                return
+            longest = choose(waiting, key=waiting.get)
             del self.waiting[longest]
             longest.shutdown(socket.SHUT_RDWR)
         ends = time.monotonic() + 1
@@ -424,14 +429,24 @@ class Page:
             self.places -= 1
             return True
 
-    def serve(self, peer):
+    def admit(self, peer):
+        """Takes a slot for a connection, or else ends it; returns whether it has a slot."""
         try:
-            if self.take(peer):
-                try:
-                    self.converse(peer)
-                finally:
-                    with self.lock:
-                        self.places += 1
+            is_in = self.take(peer)
+        except OSError:
+            is_in = False
+        if not is_in:
+            peer.close()
+        return is_in
+
+    def serve(self, peer):
+        """Serves a connection that has a slot."""
+        try:
+            try:
+                self.converse(peer)
+            finally:
+                with self.lock:
+                    self.places += 1
         except OSError:
             pass  # the peer has left, or was too slow
         finally:
@@ -634,14 +649,15 @@ class Sessions:
         return f"200 Read handler '{handler}' OK\r\nDATA {len(answer.encode())}\r\n{answer}".encode()
 
 
-def listen(port, serve):
-    """Serves each connection at a port of 127.0.0.1 in its own thread."""
+def listen(port, serve, admit=lambda _: True):
+    """Serves each connection at a port of 127.0.0.1 in its own thread, if it is admitted."""
     listener = socket.create_server(("127.0.0.1", port), backlog=128)
 
     def accept():
         while True:
             peer, _ = listener.accept()
-            threading.Thread(target=serve, args=(peer,), daemon=True).start()
+            if admit(peer):
+                threading.Thread(target=serve, args=(peer,), daemon=True).start()
 
     threading.Thread(target=accept, daemon=True).start()
 
@@ -666,7 +682,7 @@ def main():
     # A client that reaches the page reaches the sessions too.
     if given.port:
         listen(given.port, sessions.serve)
-    listen(given.page, page.serve)
+    listen(given.page, page.serve, page.admit)
     if given.port:
         threading.Event().wait()
     sessions.converse(sys.stdin.buffer, sys.stdout.buffer)
