@@ -112,7 +112,7 @@ MUTANTS = Part("mutants", "the prover refuses the mutants of the crates that cha
 WRONGS = (
     Part("mutants_test", "the runner of the mutants reports those that are not refused, and faulty edits", "tools/mutants_test.sh"),
     Part("run_sh_wrongs", "each test of run.sh fails over a wrong run.sh", "tools/run_sh_test.sh --wrongs"),
-    Part("page_wrongs", "the checks of the page without a browser fail over a wrong router", "tools/page.py --wrongs sockets figures prometheus"),
+    Part("page_wrongs", "the checks of the page without a browser fail over a wrong router", "tools/page.py --wrongs sockets figures connections prometheus"),
     Part("clickctl_wrongs", "the checks of clickctl fail over wrong clients", "tools/clickctl.py --wrongs", (PROG,)),
     Part("filters_wrongs", "the comparison of the filters fails over wrong models and wrong translations", "tools/filters.py --wrong", (PROG,)),
     Part("wrong_testbeds", "the testbed refuses wrong configurations, swaps and scripts", "examples/testbed/run.sh --wrongs", (PROG,), ("time",)),

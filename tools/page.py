@@ -18,7 +18,7 @@ an idle page. And a Prometheus scrapes the page and answers queries.
 The router is started as PROGRAM WORD.. -e TEXT --live -p P -w 1 --page Q, and for one check
 without --live, -p and -w. If no program is given, it is the one that the variable PROGRAM names, or
 else the proved one. With --mock it is tools/page_mock.py, which --wrong makes wrong in one point.
-The part `connections` needs a program.
+The part `connections` needs a program, except some of its checks.
 
 --check makes only this check, of any part but `browser`, whose checks come one after another.
 
@@ -971,22 +971,16 @@ def ends_unfinished(command):
                     raise Wrong(f"{what} is answered 408 after {time.monotonic() - began:.1f} s")
 
 
-def mesh_of(count):
-    """Returns a configuration with this many Switches and Counters in a ring with cross-connections."""
-    switches = [f"s{at} :: Switch(0); c{at} :: Counter; s{at} -> c{at};" for at in range(count)]
-    return "\n".join(switches + [f"s{at} [1] -> c{(at * 7 + 3) % count}; c{at} -> s{(at + 1) % count};" for at in range(count)])
-
-
 def makes_once(command):
     """Checks that the flat form and the picture of a large configuration take long only once."""
-    with Waiting(command) as router:
+    with Router(command, WATCHED) as router:
         client = Client(router, None)
-        same({"done": True}, client.ask("/swap", "POST", mesh_of(100).encode(), [MARK]).json(), "a swap to a large configuration")
+        same({"done": True}, client.ask("/swap", "POST", mesh.text().encode(), [MARK]).json(), "a swap to a large configuration")
         for target in ("/flat", "/picture.svg"):
             seconds = []
             for _ in range(4):
                 began = time.monotonic()
-                client.ask(target)
+                same(200, client.ask(target).status, target)
                 seconds.append(time.monotonic() - began)
             if min(seconds[1:]) > seconds[0] / 3:
                 raise Wrong(f"{target} takes {seconds[0]:.3f} s, and then {min(seconds[1:]):.3f} s")
@@ -1317,6 +1311,8 @@ SEEN_BY = {
     "exchanged-links": "/metrics counts the datagrams of links",
     "raw-labels": "/metrics counts the datagrams of links",
     "memory-in-pages": "/metrics has the memory of the process",
+    "makes-flat-again": "the flat form and the picture are made once",
+    "makes-picture-again": "the flat form and the picture are made once",
     "kept-flat": "the flat form and the picture are of the running configuration",
     "kept-picture": "the flat form and the picture are of the running configuration",
     "other-picture": "the flat form and the picture are of the running configuration",

@@ -56,6 +56,9 @@ READING = ["GET", "HEAD"]
 ALLOWED = {"/": READING, "/picture.svg": READING, "/flat": READING, "/read": READING, "/metrics": READING, "/write": ["POST"], "/swap": ["POST"]}
 LEVELS, TOTALS = ["length", "highwater_length", "capacity", "switch"], ["count", "byte_count", "drops"]
 LINK_COUNTS = ["received", "strangers", "too_long", "no_room", "no_memory", "entered", "sent", "failed"]
+# The elements of a large configuration, and the seconds that it takes to make its flat form or its
+# picture.
+LARGE, MAKING = 1000, 1
 MOST_HEAD, MOST_BODY, MOST_CONNECTIONS = 65536, 1048576, 32
 # Shorter than those of the router, so that tests are faster.
 SECONDS_FOR_A_HEAD, SECONDS_BETWEEN = 3, 30
@@ -66,7 +69,8 @@ WRONGS = """no-host-check no-target-check no-mark-check cors no-policy other-pol
 many-connections stuck-sessions other-element less-connections other-flat still-counter lost-write other-place no-place fault-installs no-redraw unseen-swap
 no-denial any-query empty-handler utf-8-names no-absolute-form capital-hosts no-allow no-head no-types less-metrics other-metrics all-gauges
 bad-sample still-metrics untyped no-room other-room no-figures figures-twice zero-sessions endless-sessions zero-links exchanged-links raw-labels
-memory-in-pages kept-flat kept-picture other-picture fault-redraws other-reasons garbage-ends-all late-refusal lost-answer parting-words""".split()
+memory-in-pages kept-flat kept-picture other-picture fault-redraws makes-flat-again makes-picture-again other-reasons garbage-ends-all
+late-refusal lost-answer parting-words""".split()
 # Edits of the page: texts that occur once, each followed by its replacement.
 DRAWS_ALL = "isWhole = isAll || parts.length <= PARTS.whole", "isWhole = true"
 READS_ALL = "if (watches.reduce((sum, it) => sum + it.handlers.length, 2) <= MOST_HANDLERS) return watches;", "return watches;"
@@ -287,6 +291,8 @@ class Page:
         self.places, self.lock = MOST_CONNECTIONS, threading.Lock()
         # The connections that wait for a request, and since when.
         self.waiting = {}
+        # The configuration for which the flat form and the picture were made last, by their paths.
+        self.made = {}
         script = max(re.findall(rb"<script>(.*?)</script>", self.page, re.S), key=len)
         digest = base64.b64encode(hashlib.sha256(script).digest()).decode()
         self.policy = f"default-src 'none'; script-src 'sha256-{digest}'; style-src 'unsafe-inline'; connect-src 'self'; img-src 'self' data:; base-uri 'none'; form-action 'none'; frame-ancestors 'none'"
@@ -344,6 +350,8 @@ class Page:
         call, router = self.router.call, self.router
         if path == "/":
             return self.respond(200, "text/html; charset=utf-8", self.page)
+        if path in ("/picture.svg", "/flat"):
+            self.wait_for(path)
         if path == "/picture.svg":
             return self.respond(200, "image/svg+xml", self.picture().encode())
         if path == "/flat":
@@ -359,6 +367,13 @@ class Page:
         if self.wrong == "lost-write" and path == "/write":
             return self.respond(200, "application/json", as_json({"done": True}))
         return self.respond(200, "application/json", as_json(entry(call(router.write, "hotconfig" if path == "/swap" else handlers[0], text))))
+
+    def wait_for(self, path):
+        """Waits as long as a router takes to make this for a large configuration, the first time."""
+        is_again = self.wrong == {"/flat": "makes-flat-again", "/picture.svg": "makes-picture-again"}[path]
+        if len(self.router.places) > LARGE and (is_again or self.made.get(path) != self.router.text):
+            time.sleep(MAKING)
+        self.made[path] = self.router.text
 
     def read(self, handlers, said):
         if self.wrong == "unseen-swap":
