@@ -389,38 +389,84 @@ def flat_form(came):
     return list(zip(names, classes)), joined
 
 
+# The namespace of the elements of a picture.
+SVG = "{http://www.w3.org/2000/svg}"
+PAIR = "elementclass P { input -> a :: Null -> b :: Null -> output; }"
+# Configurations with the names of their frames, and the elements in each. They have an element that
+# only looks as if it were in a compound, compounds in a compound, and one in a ring.
+FRAMES = {
+    "x/y :: Idle; x/z :: Idle;": {},
+    f"{PAIR} Idle -> x :: P -> x/q :: Null -> Discard;": {"x": {"x/a", "x/b"}},
+    f"{PAIR} elementclass O {{ input -> i :: P -> n :: Null -> output; }} Idle -> o :: O -> Discard;": {"o": {"o/i/a", "o/i/b", "o/n"}, "o/i": {"o/i/a", "o/i/b"}},
+    f"{PAIR} InfiniteSource -> m :: Null -> x :: P -> s :: Switch(0); s [0] -> m; s [1] -> Discard;": {"x": {"x/a", "x/b"}},
+}
+
+
+def box_of(group):
+    """Returns the left, upper, right and lower side of the rectangle of a group."""
+    left, upper = map(int, re.fullmatch(r"translate\((\d+),(\d+)\)", group.get("transform")).groups())
+    box = next(group.iter(f"{SVG}rect"))
+    return left, upper, left + int(box.get("width")), upper + int(box.get("height"))
+
+
+def is_within(box, frame):
+    return frame[0] <= box[0] and frame[1] <= box[1] and box[2] <= frame[2] and box[3] <= frame[3]
+
+
+def is_over(frame, box):
+    """Returns whether two rectangles have a common area."""
+    return frame[0] < box[2] and box[0] < frame[2] and frame[1] < box[3] and box[1] < frame[3]
+
+
+def frames_of(top, boxes, what):
+    """Returns the names of the frames of a picture, and the elements in each. Checks the frames.
+
+    A frame has the box of an element. It is over no box that is not in it, and its name is the
+    beginning of the names of the elements in it.
+    """
+    found = {}
+    for it in top.iter(f"{SVG}g"):
+        if it.get("class") == "frame":
+            [name], frame = [text.text for text in it.iter(f"{SVG}text")], box_of(it)
+            same(False, name in found, f"a second frame {name} of {what}")
+            same([], [at for at, box in boxes.items() if is_over(frame, box) and not is_within(box, frame)], f"the boxes that the frame {name} cuts, in {what}")
+            found[name] = {at for at, box in boxes.items() if is_within(box, frame)}
+            same([], [at for at in found[name] if not at.startswith(f"{name}/")], f"foreign elements in the frame {name} of {what}")
+            is_there(found[name], f"the frame {name} of {what}")
+    return found
+
+
 def shows(picture, elements, joined, what):
     """Checks a picture: it is XML, with a box for each element, in order, and a line for each
-    connection.
+    connection. Returns the frames, by `frames_of`.
 
     The line begins at the lower side of the source's box and ends at the upper side of the
     target's.
     """
-    svg, boxes = "{http://www.w3.org/2000/svg}", {}
+    boxes = {}
     try:
         top = xml.fromstring(picture)
     except xml.ParseError as error:
         fail(f"{what} is no XML: {error}")
-    groups = [it for it in top.iter(f"{svg}g") if it.get("id")]
+    groups = [it for it in top.iter(f"{SVG}g") if it.get("id")]
     same([f"e{at}" for at in range(len(elements))], [it.get("id") for it in groups], f"the elements of {what}")
     for (name, named), it in zip(elements, groups):
-        same([name, named], [text.text for text in it.iter(f"{svg}text")], f"a box of {what}")
-        left, upper = map(int, re.fullmatch(r"translate\((\d+),(\d+)\)", it.get("transform")).groups())
-        box = next(it.iter(f"{svg}rect"))
-        boxes[name] = left, upper, left + int(box.get("width")), upper + int(box.get("height"))
-    lines = list(top.iter(f"{svg}polyline"))
+        same([name, named], [text.text for text in it.iter(f"{SVG}text")], f"a box of {what}")
+        boxes[name] = box_of(it)
+    lines = list(top.iter(f"{SVG}polyline"))
     same([f"c{at}" for at in range(len(joined))], [it.get("id") for it in lines], f"the lines of {what}")
     for (source, target), it in zip(joined, lines):
         points = [tuple(map(int, point.split(","))) for point in it.get("points").split()]
         (x, y), (to_x, to_y), source, target = points[0], points[-1], boxes[source], boxes[target]
         is_there(source[0] < x < source[2] and y == source[3], f"the beginning of line {it.get('id')} of {what}")
         is_there(target[0] < to_x < target[2] and to_y == target[1], f"the end of line {it.get('id')} of {what}")
+    return frames_of(top, boxes, what)
 
 
 def draws(prog, text):
     """Checks that the program draws what a session lists, or refuses the text as a run does.
 
-    Returns whether it drew it.
+    A text without a brace has no compound, and so no frame. Returns whether the program drew it.
     """
     what = f"the picture of {text[:200]}"
     run, drawn = ran([prog, "-e", text], b"READ list\nREAD flatconfig\nQUIT\n"), ran([prog, "--draw", "-e", text], b"READ list\n")
@@ -428,15 +474,17 @@ def draws(prog, text):
         answered(drawn, what, err=run.err, status=1)
         return False
     answered(drawn._replace(out=b""), what)
-    shows(drawn.out, *flat_form(run), what)
+    frames = shows(drawn.out, *flat_form(run), what)
+    if text in FRAMES or "{" not in text:
+        same(FRAMES.get(text, {}), frames, f"the frames of {what}, with the elements in them")
     return True
 
 
 def pictures(row):
     """Checks that the page's command writes the picture that the page shows, and other drawings.
 
-    These are the drawings of all examples, of texts that are served, and of texts that are refused.
-    A picture that cannot be written is a failed write.
+    These are the drawings of all examples, of texts that are served, of texts that are refused, and
+    of those of FRAMES. A picture that cannot be written is a failed write.
     """
     (page, *folders), prog = row.pages, program("click_prog")
     command = re.search(r"^    (\./run\.sh --draw .* > (\S+\.svg))$", text_of(page), re.M)
@@ -447,7 +495,7 @@ def pictures(row):
         with open(f"{folder}/{command[2]}", "rb") as it:
             same(bytes_of(f"docs/{command[2]}"), it.read(), f"what the command of {page} writes, and what the page shows")
     texts = [text_of(f"{folder}/{it}.click").rstrip("\n") for folder in folders for it in names_in(folder, ".click")]
-    texts += [*lines_of("examples/opens.txt"), *(it.split("\t", 1)[1] for it in lines_of("examples/faults.txt")), "Idle -> Null;" * 2048, "Idle;" * 4097]
+    texts += [*lines_of("examples/opens.txt"), *(it.split("\t", 1)[1] for it in lines_of("examples/faults.txt")), "Idle -> Null;" * 2048, "Idle;" * 4097, *FRAMES]
     drawn = sum(draws(prog, text) for text in texts)
     with open("/dev/full", "wb") as full:
         answered(ran([prog, "--draw", "-e", COUNTER], stdout=full), "a picture that cannot be written", status=4)

@@ -131,8 +131,28 @@ wrong_examples() {
     for change in 's/>Discard</>Idle</' 's/id="e1"/id="e0"/' 's/ \([0-9,]*\)"\/>$/ 1\1"\/>/'; do
         wrong_prog 'tools/examples.py pictures' "the change $change" "if ! grep -q out0 \"\$out\"; then sed -i '$change' \"\$out\"; fi"
     done
+    wrong_frames
     wrong_prog 'tools/examples.py pictures' 'a session behind the picture' 'if grep -q "^<svg" "$out"; then printf "Click::ControlSocket/1.3\r\n" >> "$out"; fi'
     wrong_prog 'tools/examples.py books' 'a book with other seats' 'sed -i "s/^0/1/" "$err"'
+}
+
+# wrong_frames: frames that are inserted, moved, renamed or left out. The picture of the page stays.
+wrong_frames() {
+    local frame='<g class="frame" transform="translate(0,0)"><rect rx="8" width="999" height="999"\/><text x="8" y="14">x<\/text><\/g>'
+    wrong_frame 'a frame where no compound is' 'the frames of the picture' "if grep -q '>x/z<' \"\$out\"; then sed -i '/id=\"e0\"/s/^/$frame/' \"\$out\"; fi"
+    wrong_frame 'a frame of all elements' 'foreign elements in the frame' "sed -i '/id=\"e0\"/s/^/$frame/' \"\$out\""
+    wrong_frame 'a frame that cuts a box' 'boxes that the frame .* cuts' 'sed -i "/class=.frame/s/width=.[0-9]*/width=\"50/" "$out"'
+    wrong_frame 'a frame elsewhere' 'there is nothing of the frame' 'sed -i "/class=.frame/s/translate(/&9/" "$out"'
+    wrong_frame 'a frame with another name' 'foreign elements in the frame' 'sed -i "/class=.frame/s/<.text/z&/" "$out"'
+    wrong_frame 'a frame twice' 'a second frame' 'sed -i "/class=.frame/p" "$out"'
+    wrong_frame 'no frame' 'the frames of the picture' 'sed -i "/class=.frame/d" "$out"'
+}
+
+# wrong_frame WHAT MESSAGE CHANGE: checks that the pictures of click_prog with the change are refused
+# with this message.
+wrong_frame() {
+    wrong_prog 'tools/examples.py pictures' "$1" "if ! grep -q out0 \"\$out\"; then $3; fi"
+    if ! grep -q "$2" "$work/err"; then fail "pictures with $1: wanted a message with: $2" "$(shown "$work/err")"; fi
 }
 
 wrong_calls_of_examples() {

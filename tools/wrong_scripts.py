@@ -56,6 +56,21 @@ WRONG_REPLIES = [
         "received 0, strangers 0, too long 0, no room 0, no memory 0, entered 0, sent 0, failed 0",
     ),
     (f"{LINKED}sent\ta\t00\n", "none"),
+    ("case\tA case.\nframes\tx/y :: Idle; x/z :: Idle;\tx: x/y x/z|\n", ""),
+    (
+        "case\tA case.\nframe\t50 60 1 2 30 40 a\tno\n",
+        r'<svg xmlns="http://www.w3.org/2000/svg" width="50" height="60" viewBox="0 0 50 60">\0a..</marker>\0a'
+        r'<g class="frame" transform="translate(1,2)"><rect rx="8" width="30" height="40"/><text x="8" y="14">a</text></g>\0a</svg>\0a',
+    ),
+    # The picture is that of tests/pictures.script.
+    (
+        "case\tA case.\npicture\ts :: InfiniteSource -> d :: Discard;\tno\n",
+        r'<svg xmlns="http://www.w3.org/2000/svg" width="172" height="196" viewBox="0 0 172 196">\0a..</marker>\0a<polyline id="c0" points="86,86 86,130"/>\0a'
+        r'<g id="e0" transform="translate(20,40)"><rect class="box" width="132" height="46"/><text y="21" x="66">s</text>'
+        r'<text class="class" y="33" x="66">InfiniteSource</text><path class="push" d="M62 39h8v7h-8z"/></g>\0a'
+        r'<g id="e1" transform="translate(48,130)"><rect class="box" width="76" height="46"/><text y="21" x="38">d</text>'
+        r'<text class="class" y="33" x="38">Discard</text><path class="push" d="M33 0h10l-5 7z"/><path class="rim" d="M29 0h18l-9 12z"/></g>\0a</svg>\0a',
+    ),
 ]
 READS = "< READ x.count\n> 510 No element named 'x'\n< FOO\n> 501 Unimplemented command 'FOO'\n"
 FIRST = r"510 No element named 'x'\0d\0a"
