@@ -302,6 +302,19 @@ def page_writes() -> None:
         router.same_page_lines([*write_lines(rows), "swap bytes=15 outcome=installed"])
 
 
+def page_links() -> None:
+    """Checks the lines of writes and a swap by the page, and of a session, of a router with a link."""
+    rows = write_rows(1_000)
+    with Paged("--live", "--link", f"a={free_port()},{free_port()}") as router:
+        for name, text, _, outcome in rows:
+            same(outcome == "done", router.write(name, text) == {"done": True}, f"a write of {name!r:.80} is done")
+        talk(router.port, b"WRITE c.reset_counts\nREAD c.count\nQUIT\n")
+        same({"done": True}, router.post("/swap", OTHER_TEXT.encode()), "a swap")
+        came = router.lines()
+        same([*write_lines(rows), f"swap bytes={len(OTHER_TEXT)} outcome=installed"], came.pop(PAGE, None), "the lines of the page")
+        same({1: ["begins slot=1", "write=c.reset_counts bytes=0 outcome=done", "ends cause=quit reads=1 writes=1 checks=0 failed=0"]}, came, "the lines of the session")
+
+
 def page_reads() -> None:
     """Checks that reads of the page are not logged, nor writes of a read-only page or foreign ones."""
     with Paged("--live", "--readonly") as router:
@@ -435,7 +448,7 @@ def serves_with(what: str, error_output: int) -> None:
 
 CASES = {
     case.__name__: case
-    for case in (ends, unread, swaps, page_swaps, writes, page_writes, readonly, page_reads, full, page_full, parallel, without, page_without, unwritable)
+    for case in (ends, unread, swaps, page_swaps, writes, page_writes, page_links, readonly, page_reads, full, page_full, parallel, without, page_without, unwritable)
 }
 
 

@@ -241,7 +241,7 @@ case_wrong() {
     shift 3
     { echo '#!/bin/sh'; printf '%s\n' "program='$program'" "$@"; } > "$work/listening"
     chmod +x "$work/listening"
-    PROGRAM=$work/listening SECONDS_TO_WAIT=3 PACKETS=20000 is_refused "a program with $what" "$script" ${case:+"$case"}
+    PROGRAM=$work/listening SECONDS_TO_WAIT=${SECONDS_TO_WAIT:-3} PACKETS=20000 is_refused "a program with $what" "$script" ${case:+"$case"}
 }
 sessions_wrong() { case_wrong tools/sessions.sh "$@"; }
 hostile_wrong() { case_wrong tools/hostile.sh "$@"; }
@@ -392,10 +392,17 @@ wrong_service() {
 
 # wrong_log: lines of --log that are left out, wrong, mixed, forged or not asked for.
 wrong_log() {
+    local unlogged='case " $* " in *" --link "*) for word; do shift; if [ "$word" != --log ]; then set -- "$@" "$word"; fi; done ;; esac; exec "$program" "$@"'
     local page_line='echo "$(date -u +%FT%T.%3NZ) page write=c.reset_counts bytes=0 outcome=done" >&2'
     log_wrong ends 'another cause' 'the lines of session 1' "$(retold 's/cause=quit/cause=end-of-input/')"
     log_wrong ends 'another number' 'the numbers of sessions' "$(retold 's/session=2/session=3/')"
+    log_wrong ends 'another number of reads' 'the lines of session 2' "$(retold 's/reads=2/reads=3/')"
+    log_wrong ends 'another number of checks' 'the lines of session 2' "$(retold 's/checks=2/checks=1/')"
+    log_wrong ends 'another slot' 'the lines of session 1' "$(retold 's/slot=1/slot=2/')"
     log_wrong ends 'a time of another year' 'the time is not' "$(retold 's/^2/1/')"
+    # The end of a client that never reads takes more than three seconds.
+    SECONDS_TO_WAIT=20 log_wrong unread 'another cause of an end' 'the end of a client that never reads' "$(retold 's/cause=write-failed/cause=read-failed/')"
+    SECONDS_TO_WAIT=20 log_wrong unread 'no end of a client that never reads' 'the end of a client that never reads' "$(retold '/cause=write-failed/d')"
     log_wrong swaps 'a swap that is left out' 'the lines of session 1' "$(retold '/outcome=installed/d')"
     log_wrong swaps 'another position of a fault' 'the lines of session 1' "$(retold 's/ at 1:9/ at 1:8/')"
     log_wrong page_swaps 'a swap of the page that is left out' 'the lines of the page' "$(retold '/page swap.*installed/d')"
@@ -403,11 +410,15 @@ wrong_log() {
     log_wrong writes 'a name with the end of a line' 'not a line of the log' "$(retold 's/\\x0b/\n/')"
     log_wrong page_writes 'a name of the page with the end of a line' 'not a line of the log' "$(retold 's/\\x0a/\n/')"
     log_wrong page_writes 'another outcome' 'the lines of the page' "$(retold 's/outcome=no-element/outcome=no-handler/')"
+    log_wrong page_links 'no log if it has a link' 'the lines of the page' "$unlogged"
+    log_wrong page_links 'a write of the page that is left out' 'the lines of the page' "$(retold '/page write=c.reset_counts/d')"
     log_wrong readonly 'writes though it may only read' 'the lines of session 1' "$writes"
     log_wrong page_reads 'a line that no write has' 'the lines of the page' "$page_line" 'exec "$program" "$@"'
     log_wrong full 'another cause of a failed call' 'about a full book' "$(retold 's/history-full/no-memory/')"
+    log_wrong full 'another number of failed calls' 'the end of a session at a full book' "$(retold 's/failed=1/failed=0/')"
     log_wrong page_full 'another cause of a failed call of the page' 'about a full book' "$(retold 's/history-full/no-memory/')"
     log_wrong parallel 'two lines in one' 'not a line of the log' "$(retold 'N;s/\n//')"
+    log_wrong parallel 'a slot that is not there' 'the slots are in their range' "$(retold 's/slot=[0-9]*/slot=0/')"
     log_wrong without 'a line without --log' 'the outputs' 'echo junk >&2' 'exec "$program" "$@"'
     log_wrong page_without 'a line of the page without --log' 'the lines of the page' "$page_line" 'exec "$program" "$@"'
     log_wrong unwritable 'an end if no line can be written' 'refused' 'if ! echo > /dev/stderr; then exit 4; fi' 'exec "$program" "$@"'
