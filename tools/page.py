@@ -489,6 +489,64 @@ def limits_bodies(client):
     same(413, client.send(head.encode()).status, "a body of a byte more")
 
 
+def chunked(client, target, *chunks, fields=(), end=b"0\r\n\r\n"):
+    """Returns a request whose body comes in these chunks, each with its length in front.
+
+    A chunk that is given with its length has exactly this length, whatever bytes follow.
+    """
+    lines = [f"POST {target} HTTP/1.1", f"host: 127.0.0.1:{client.router.page}", MARK, "transfer-encoding: chunked", *fields, "", ""]
+    pairs = [it if isinstance(it, tuple) else (b"%x" % len(it), it) for it in chunks]
+    return "\r\n".join(lines).encode() + b"".join(b"%s\r\n%s\r\n" % it for it in pairs) + end
+
+
+LAST = "connection: close"
+
+
+def takes_chunks(client):
+    """Checks bodies in chunks: of a write, of swaps, an empty one, and one before a further request."""
+    session = client.session
+    for text in (b"1", b"0"):
+        same({"done": True}, client.send(chunked(client, "/write?handler=s.switch", text, fields=[LAST])).json(), "a write in a chunk")
+        same(text.decode(), session.read("s.switch"), "s.switch after it")
+    for text in (SWAPPED.encode(), WATCHED.encode()):
+        pieces = (b"10", text[:16]), (b"000A", text[16:26]), (b"b;name=value", text[26:37]), text[37:]
+        came = client.send(chunked(client, "/swap", *pieces, fields=[LAST], end=b"0\r\nx-trailer: 1\r\n\r\n"))
+        same({"done": True}, came.json(), "a swap in four chunks")
+        same(text.decode(), session.read("config"), "the text after it")
+    with client.connect() as peer:
+        first = chunked(client, "/write?handler=c.reset_counts")
+        peer.sendall(first + chunked(client, "/write?handler=s.switch", b"0", fields=[LAST]))
+        came = received(peer)
+    same([b'{"done":true}'] * 2, re.findall(rb"\r\n\r\n({.*?})", came), "the answers to a write of no byte in chunks, and to a write after it")
+
+
+def refuses_chunks(client):
+    malformed = {
+        "a length that is no number": [(b"zz", b"1")],
+        "no length": [(b"", b"1")],
+        "a length below 0": [(b"-1", b"1")],
+        "a chunk that is longer than its length": [(b"1", b"11")],
+        "a length of the body too": [b"1"],
+    }
+    for what, chunks in malformed.items():
+        fields = ["content-length: 1"] if what == "a length of the body too" else []
+        same(400, client.send(chunked(client, "/write?handler=s.switch", *chunks, fields=[LAST, *fields])).status, what)
+    same("0", client.session.read("s.switch"), "s.switch after that")
+
+
+def limits_chunks(client):
+    """Checks the length of a body in chunks. The status comes before the rest of a chunk."""
+    most = 1048576
+    for what, chunks, end, status in (
+        ("1 MiB in 16 chunks", [b"x" * 65536] * 16, b"0\r\n\r\n", 200),
+        ("1 MiB in a chunk", [b"x" * most], b"0\r\n\r\n", 200),
+        ("a byte more in a chunk", [b"x" * (most + 1)], b"0\r\n\r\n", 413),
+        ("a byte more in two chunks", [b"x" * most, b"x"], b"0\r\n\r\n", 413),
+        ("a byte more of a chunk of 2 MiB", [], b"200000\r\n" + b"x" * (most + 1), 413),
+    ):
+        same(status, client.send(chunked(client, "/write?handler=x.y", *chunks, fields=[LAST], end=end)).status, f"a body of {what}")
+
+
 def ends_slow_heads(client):
     """Checks a head that is sent byte by byte, without a long pause."""
     patience = PATIENCE_OF_MOCK if client.router.is_mock else PATIENCE
@@ -574,6 +632,9 @@ SOCKETS = {
     "garbage is refused": refuses_garbage,
     "a long head is refused": limits_heads,
     "a long body is refused": limits_bodies,
+    "a body may come in chunks": takes_chunks,
+    "a malformed chunk is refused": refuses_chunks,
+    "a long body in chunks is refused": limits_chunks,
     "a slow head is ended": ends_slow_heads,
     "a 33rd connection is refused": limits_connections,
     "the connection that waited longest makes room": closes_idle,
@@ -971,6 +1032,44 @@ def ends_unfinished(command):
                     raise Wrong(f"{what} is answered 408 after {time.monotonic() - began:.1f} s")
 
 
+def is_open(router, peer):
+    """Returns whether the router has not ended this connection, by Linux's table of sockets."""
+    ends = [f"0100007F:{port:04X}" for port in (router.page, peer.getsockname()[1])]
+    with open("/proc/net/tcp", encoding="ascii") as rows:
+        return any(row.split()[1:4] == [*ends, "01"] for row in rows)
+
+
+def cuts_off(command):
+    """Checks that a peer that never reads is cut off, in time. It asked for the page 200 times.
+
+    One that reads up to a megabyte each second is served before that, meanwhile and later.
+    """
+    with Router(command, WATCHED) as router, contextlib.ExitStack() as both:
+        limit, latest = (page_mock.SECONDS_FOR_OUTPUT, PATIENCE_OF_MOCK) if router.is_mock else (LIMIT, LATEST)
+        slow, silent = (both.enter_context(Client(router, None).connect()) for _ in range(2))
+        slow.setsockopt(socket.SOL_SOCKET, socket.SO_RCVBUF, 1 << 18)
+        slow.settimeout(0.25)
+
+        def read_slowly(seconds, goes_on=lambda: True):
+            ends = time.monotonic() + seconds
+            while time.monotonic() < ends and goes_on():
+                with contextlib.suppress(TimeoutError):
+                    slow.recv(1 << 18)
+                time.sleep(0.25)
+
+        for peer in (slow, silent):
+            peer.sendall(f"GET / HTTP/1.1\r\nhost: 127.0.0.1:{router.page}\r\n\r\n".encode() * 200)
+            until(lambda peer=peer: select.select([peer], [], [], 0)[0], "an answer begins")
+            began = time.monotonic()
+            read_slowly(1)
+        read_slowly(latest, lambda: is_open(router, silent))
+        seconds = time.monotonic() - began
+        read_slowly(2)
+        same((False, True), (is_open(router, silent), is_open(router, slow)), f"whether a peer that never reads, and one that reads slowly, are served after {seconds:.1f} s")
+        if seconds < limit - 1:
+            raise Wrong(f"a peer that never reads is cut off after {seconds:.1f} s")
+
+
 def makes_once(command):
     """Checks that the flat form and the picture of a large configuration take long only once."""
     with Router(command, WATCHED) as router:
@@ -1008,6 +1107,7 @@ CONNECTIONS = {
     "a client that ends its output gets its answer and the end": ends_with_client,
     "a connection without a request stays open": keeps_idle,
     "a request that is not finished gets 408": ends_unfinished,
+    "a peer that never reads is cut off": cuts_off,
     "the flat form and the picture are made once": makes_once,
     "a run without --live ends with its session": ends_with_session,
 }
@@ -1335,6 +1435,13 @@ SEEN_BY = {
     "garbage-ends-all": "garbage is refused",
     "long-heads": "a long head is refused",
     "long-bodies": "a long body is refused",
+    "no-chunks": "a body may come in chunks",
+    "decimal-chunks": "a body may come in chunks",
+    "takes-chunks": "a malformed chunk is refused",
+    "long-chunks": "a long body in chunks is refused",
+    "waits-for-readers": "a peer that never reads is cut off",
+    "cuts-off-early": "a peer that never reads is cut off",
+    "cuts-off-slow-readers": "a peer that never reads is cut off",
     "many-connections": "a 33rd connection is refused",
     "late-refusal": "a 33rd connection is refused",
     "no-room": "the connection that waited longest makes room",

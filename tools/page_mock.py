@@ -60,8 +60,9 @@ LINK_COUNTS = ["received", "strangers", "too_long", "no_room", "no_memory", "ent
 # picture.
 LARGE, MAKING = 1000, 1
 MOST_HEAD, MOST_BODY, MOST_CONNECTIONS = 65536, 1048576, 32
-# Shorter than those of the router, so that tests are faster.
-SECONDS_FOR_A_HEAD, SECONDS_BETWEEN = 3, 30
+# Shorter than those of the router, so that tests are faster. The last is the time in which a peer
+# has to take a part of the output.
+SECONDS_FOR_A_HEAD, SECONDS_BETWEEN, SECONDS_FOR_OUTPUT = 3, 30, 3
 # How long a swap to a text of more than 100,000 bytes takes, so that a session can end meanwhile.
 SECONDS_FOR_A_LONG_TEXT = 0.5
 # The points in which the mock can be wrong. tools/page.py has to find each of them.
@@ -70,7 +71,8 @@ many-connections stuck-sessions other-element less-connections other-flat still-
 no-denial any-query empty-handler utf-8-names no-absolute-form capital-hosts no-allow no-head no-types less-metrics other-metrics all-gauges
 bad-sample still-metrics untyped no-room other-room no-figures figures-twice zero-sessions endless-sessions zero-links exchanged-links raw-labels
 memory-in-pages kept-flat kept-picture other-picture fault-redraws makes-flat-again makes-picture-again other-reasons garbage-ends-all
-late-refusal lost-answer parting-words""".split()
+late-refusal lost-answer parting-words no-chunks decimal-chunks takes-chunks long-chunks waits-for-readers cuts-off-early
+cuts-off-slow-readers""".split()
 # Edits of the page: texts that occur once, each followed by its replacement.
 DRAWS_ALL = "isWhole = isAll || parts.length <= PARTS.whole", "isWhole = true"
 READS_ALL = "if (watches.reduce((sum, it) => sum + it.handlers.length, 2) <= MOST_HANDLERS) return watches;", "return watches;"
@@ -108,6 +110,14 @@ class Fault(Exception):
         super().__init__(number)
         self.number = number
         self.text = "".join(f"{number}{' ' if line is lines[-1] else '-'}{line}\r\n" for line in lines)
+
+
+class Refused(Exception):
+    """The status that refuses a request, because of its form or its length."""
+
+    def __init__(self, status):
+        super().__init__(status)
+        self.status = status
 
 
 def text_in(text, name, kind):
@@ -291,8 +301,12 @@ class Page:
         self.places, self.lock = MOST_CONNECTIONS, threading.Lock()
         # The connections that wait for a request, and since when.
         self.waiting = {}
+        # When the first answer of a connection began.
+        self.begun = {}
         # The configuration for which the flat form and the picture were made last, by their paths.
         self.made = {}
+        # The flat form that was written as JSON last, and this JSON.
+        self.kept = None, b""
         script = max(re.findall(rb"<script>(.*?)</script>", self.page, re.S), key=len)
         digest = base64.b64encode(hashlib.sha256(script).digest()).decode()
         self.policy = f"default-src 'none'; script-src 'sha256-{digest}'; style-src 'unsafe-inline'; connect-src 'self'; img-src 'self' data:; base-uri 'none'; form-action 'none'; frame-ancestors 'none'"
@@ -358,7 +372,9 @@ class Page:
             flat = router.flat if self.wrong != "other-flat" else {**router.flat, "elements": router.flat["elements"][::-1]}
             if self.wrong == "kept-flat":
                 self.flat = flat = getattr(self, "flat", flat)
-            return self.respond(200, "application/json", as_json(flat))
+            kept = self.kept if self.kept[0] is flat else (flat, as_json(flat))
+            self.kept = kept
+            return self.respond(200, "application/json", kept[1])
         if path == "/metrics":
             return self.respond(200, "text/plain; version=0.0.4; charset=utf-8", self.metrics().encode())
         if path == "/read":
@@ -477,12 +493,70 @@ class Page:
             if refusal := self.refusal_of(head, asked):
                 return self.part(peer, refusal)
             method, target, fields, length = asked
-            while len(rest) < length:
-                rest += self.more(peer)
-            body, rest = rest[:length], rest[length:]
-            peer.sendall(self.answer(method, target, fields, body))
+            peer.settimeout(SECONDS_BETWEEN)
+            try:
+                body, rest = self.body(peer, fields, length, rest)
+            except Refused as it:
+                return self.part(peer, it.status)
+            self.send(peer, self.answer(method, target, fields, body))
             if ("connection", "close") in fields:
                 return
+
+    def send(self, peer, answer):
+        """Sends an answer. Raises OSError if its peer takes none of it for some time."""
+        peer.settimeout({"waits-for-readers": 60, "cuts-off-early": 1}.get(self.wrong, SECONDS_FOR_OUTPUT))
+        if self.wrong == "cuts-off-slow-readers" and time.monotonic() > self.begun.setdefault(peer, time.monotonic()) + SECONDS_FOR_OUTPUT:
+            raise OSError("the connection is as old as a peer may take for a part of the output")
+        rest = memoryview(answer)
+        while rest:
+            rest = rest[peer.send(rest):]
+
+    def body(self, peer, fields, length, rest):
+        """Returns the body of a request, and the bytes after it."""
+        if ("transfer-encoding", "chunked") in fields and self.wrong != "no-chunks":
+            return self.joined_chunks(peer, rest)
+        while len(rest) < length:
+            rest += self.more(peer)
+        return rest[:length], rest[length:]
+
+    def joined_chunks(self, peer, rest):
+        """Returns a body that comes in chunks, and the bytes after it."""
+        body = b""
+        while True:
+            line, rest = self.line(peer, rest)
+            size = self.size_of(line)
+            if size == 0:
+                while line:
+                    line, rest = self.line(peer, rest)
+                return body, rest
+            while len(rest) < size + 2:
+                self.check_length(len(body) + min(len(rest), size))
+                rest += self.more(peer)
+            self.check_length(len(body) + size)
+            body += rest[:size]
+            if rest[size : size + 2] != b"\r\n" and self.wrong != "takes-chunks":
+                raise Refused(400)
+            rest = rest[size + 2 :]
+
+    def size_of(self, line):
+        """Returns the length of a chunk, by the line in front of it."""
+        found = re.fullmatch(rb"([0-9A-Fa-f]+)[ \t]*(;.*)?", line)
+        if found:
+            return int(found[1], 10 if self.wrong == "decimal-chunks" and found[1].isdigit() else 16)
+        if self.wrong == "takes-chunks":
+            return 1
+        raise Refused(400)
+
+    def check_length(self, length):
+        if length > MOST_BODY and self.wrong != "long-chunks":
+            raise Refused(413)
+
+    def line(self, peer, rest):
+        """Returns a line of a body in chunks, and the bytes after it."""
+        while b"\r\n" not in rest:
+            rest += self.more(peer)
+        line, _, rest = rest.partition(b"\r\n")
+        return line, rest
 
     def refusal_of(self, head, asked):
         """Returns the status that refuses a request, because of its length or form, or None."""
@@ -548,7 +622,8 @@ class Page:
         except AttributeError:
             return ("GET", "/", [("host", f"127.0.0.1:{self.port}")], 0) if self.wrong == "takes-garbage" else None
         fields = [(name.lower(), value) for name, value in fields]
-        if len([name for name, _ in fields if name == "host"]) != 1:
+        names = [name for name, _ in fields]
+        if names.count("host") != 1 or {"content-length", "transfer-encoding"} <= set(names) and self.wrong != "takes-chunks":
             return None
         return method, target, fields, int(dict(fields).get("content-length", 0))
 
