@@ -17,6 +17,10 @@ max_argument_bytes=131071
 # A configuration has at most 1 MiB, as the payload of a control session.
 max_text_bytes=1048576
 wait_seconds=60
+# The C library takes blocks of at least this number of bytes from the system, and returns them when
+# they are free. Without the variable it raises its limit with the blocks that become free, and keeps
+# the memory of large queues. The file NAME.conf can set another value.
+export MALLOC_MMAP_THRESHOLD_=${MALLOC_MMAP_THRESHOLD_:-131072}
 # A session may have to wait for a free session slot, and a swap for other calls.
 reply_seconds=60
 

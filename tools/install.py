@@ -23,6 +23,7 @@ import sys
 import time
 from collections.abc import Iterator
 from contextlib import ExitStack, contextmanager, suppress
+from unittest.mock import patch
 
 sys.dont_write_bytecode = True
 sys.path.insert(0, f"{os.path.dirname(os.path.realpath(__file__))}/lib")
@@ -301,6 +302,7 @@ def starts(tree: Tree) -> None:
         same(text + b"\n\n", value_of(port, "config"), "the configuration, to its last byte")
         program = f"{tree.dest}/{PREFIX}/bin/click_prog"
         same(os.path.realpath(program), os.path.realpath(f"/proc/{process.pid}/exe"), "the program that clickd became")
+        same("131072", variable_of(process, "MALLOC_MMAP_THRESHOLD_"), "the limit of blocks whose memory is returned")
         with socket.socket(socket.AF_INET, socket.SOCK_DGRAM) as left, socket.socket(socket.AF_INET, socket.SOCK_DGRAM) as right:
             left.bind(("127.0.0.1", ports["5002"]))
             right.bind(("127.0.0.1", ports["5004"]))
@@ -309,6 +311,16 @@ def starts(tree: Tree) -> None:
             same(b"a packet", right.recv(2048), "the datagram that leaves")
         process.send_signal(signal.SIGTERM)
         same(-signal.SIGTERM, process.wait(SECONDS), "the end by SIGTERM")
+    # The C library reads an empty value as 0, and would ask the system for each block.
+    for given, limit in (("1048576", "1048576"), ("", "131072")):
+        with patch.dict(os.environ, {"MALLOC_MMAP_THRESHOLD_": given}), started(tree, OLD) as (_, process):
+            same(limit, variable_of(process, "MALLOC_MMAP_THRESHOLD_"), f"the limit if the variable was {given!r}")
+
+
+def variable_of(process: subprocess.Popen[bytes], name: str) -> str | None:
+    """Returns a variable of a process."""
+    with open(f"/proc/{process.pid}/environ", encoding="utf-8") as it:
+        return dict(row.split("=", 1) for row in it.read().split("\0") if "=" in row).get(name)
 
 
 def reloads(tree: Tree) -> None:
@@ -492,6 +504,9 @@ WRONGS = {
     "strips-lines": Edit("a router starts from a file with options", "service/clickd.sh", "IFS= read -r -d '' text < \"$1\" || true", 'text=$(cat "$1") size=${#text}'),
     "no-exec": Edit("a router starts from a file with options", "service/clickd.sh", 'exec "$bin/click_prog"', '"$bin/click_prog"'),
     "loses-options": Edit("a router starts from a file with options", "service/clickd.sh", '-e "$text" "$@"', '-e "$text" -p "$port"'),
+    "keeps-memory": Edit("a router starts from a file with options", "service/clickd.sh", "export MALLOC_MMAP_THRESHOLD_", "MALLOC_MMAP_THRESHOLD_"),
+    "empty-limit": Edit("a router starts from a file with options", "service/clickd.sh", "THRESHOLD_:-", "THRESHOLD_-"),
+    "own-limit": Edit("a router starts from a file with options", "service/clickd.sh", "${MALLOC_MMAP_THRESHOLD_:-131072}", "131072"),
     "reload-that-lies": Edit("a reload installs or changes nothing", "service/clickd.sh", "[0-9][0-9][0-9]' '*) stop 1", "[0-9][0-9][0-9]' '*) echo"),
     "reload-of-lines": Edit("a reload installs or changes nothing", "service/clickd.sh", "copy=$(mktemp)\n", 'copy=$(mktemp)\n    set -- <(tr "\\n" " " < "$1")\n'),
     "reload-without-fault": Edit("a reload installs or changes nothing", "service/clickd.sh", "goes on unchanged: ${reply#520 }", "goes on unchanged"),

@@ -2,7 +2,8 @@
 """Checks that the router serves sessions over TCP for a long time. No reply is lost when a session
 ends, also if its client goes on sending. A client that keeps its session waiting is ended after
 the time of --idle, and a slow one is not. After 2,000 sessions that end in many ways the program
-has the memory, descriptors and threads that it had after the first hundred.
+has the memory, descriptors and threads that it had after the first hundred. A swap to smaller
+queues returns the memory of the large ones.
 
     tools/service.py [CASE..]
 
@@ -13,17 +14,19 @@ the script with status 1.
 from __future__ import annotations
 
 import os
+import re
 import socket
 import struct
 import subprocess
 import sys
 import time
 from typing import Callable, NamedTuple
+from unittest.mock import patch
 
 sys.dont_write_bytecode = True
 sys.path.append(f"{os.path.dirname(os.path.realpath(__file__))}/lib")
 from hostile import Listening, until
-from programs import path_of
+from programs import TOP, path_of
 from sessions import GREETING, SECONDS, Session, Wrong, all_at_once
 
 PROGRAM = path_of("click_prog")
@@ -42,8 +45,13 @@ IDLE, SLACK = 1, 1.5
 DISCARD_SECONDS, DISCARD_BYTES = 2, 2_097_152
 # The numbers of session slots, of sessions in the first wave, of all sessions, and of further waves.
 SLOTS, FIRST, ALL, WAVES = 64, 100, 2000, 4
-# The maximum growth of memory after the first wave, in kB.
+# The maximum growth of memory after the first wave, and over swaps of queues, in kB.
 MAX_GROWTH_KB = 2048
+# The number of queues that are filled, their capacities, and the bytes that a packet of a queue
+# takes (docs/CONTROL.md says about 1.7 kB).
+FILLED, LARGE, SMALL, PLACE_BYTES = 8, 9_999, 10, 1_700
+# The number of queues that stay empty, and of the swaps that change their capacities.
+EMPTY, SWAPS = 64, 100
 
 
 class Resources(NamedTuple):
@@ -259,7 +267,57 @@ def many() -> None:
         raise Wrong(f"after {FIRST} sessions: {first}; after {ALL}: {last}")
 
 
-CASES = {case.__name__: case for case in (replies, limits, silent, unread, slow, unlimited, many)}
+def variable_of_clickd() -> dict[str, str]:
+    """Returns the variable of the allocator with which clickd starts a router."""
+    with open(f"{TOP}/service/clickd.sh", encoding="utf-8") as it:
+        found = re.search(r"^export (MALLOC_MMAP_THRESHOLD_)=\S*-(\d+)\}$", it.read(), re.M)
+    if not found:
+        raise Wrong("service/clickd.sh sets no MALLOC_MMAP_THRESHOLD_")
+    return {found[1]: found[2]}
+
+
+def queues_of(capacities: list[int], packets: int) -> str:
+    """Returns queues of these capacities, each with its own packets, which stay in it."""
+    row = "InfiniteSource(ab, {}, 64) -> q{} :: Queue({}) -> PullSwitch(-1) -> Unqueue -> Discard;"
+    return "".join(row.format(packets, at, capacity) for at, capacity in enumerate(capacities))
+
+
+def swap_to(session: Session, text: str) -> None:
+    number, lines, _ = session.write(b"hotconfig", text.encode())
+    if number != 200:
+        raise Wrong(f"a swap: {lines!r}")
+
+
+def queues() -> None:
+    """Checks that a swap to smaller queues returns the memory of the large ones, full or empty."""
+    small, large = (queues_of([capacity] * FILLED, 2 * LARGE) for capacity in (SMALL, LARGE))
+
+    def fills(capacity: int) -> int:
+        for at in range(FILLED):
+            until(lambda at=at: session.read(b"q%d.length" % at) == b"%d" % capacity, f"q{at} does not fill")
+        return live.resources().memory
+
+    with patch.dict(os.environ, variable_of_clickd()):
+        live = Live(1, "-w", "1", text=small)
+    with live:
+        session = Session(live)
+        before, needed = fills(SMALL), FILLED * LARGE * PLACE_BYTES // 1024
+        for _ in range(3):
+            swap_to(session, large)
+            grown = fills(LARGE) - before
+            if not 0.9 * needed < grown < 1.1 * needed:
+                raise Wrong(f"full queues took {grown} kB, and not about {needed} kB")
+            swap_to(session, small)
+            fills(SMALL)
+            until(lambda: live.resources().memory <= before + MAX_GROWTH_KB, f"a swap to small queues does not return the memory of {grown} kB")
+        for at in range(SWAPS):
+            swap_to(session, queues_of([100 + (at * 7919 + nth * 104729) % 9900 for nth in range(EMPTY)], 0))
+        after = live.resources().memory
+        if after > before + MAX_GROWTH_KB:
+            raise Wrong(f"{SWAPS} swaps of empty queues took {after - before} kB")
+
+
+CASES = {case.__name__: case for case in (replies, limits, silent, unread, slow, unlimited, many, queues)}
 
 
 def main(words: list[str]) -> int:

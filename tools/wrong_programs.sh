@@ -280,6 +280,8 @@ preloaded() {
 option() { preloaded "int setsockopt(int fd, int level, int name, const void *value, socklen_t size) { $1; return syscall(SYS_setsockopt, fd, level, name, value, size); }"; }
 # accepts CODE: prints lines for a program that does this first when it accepts a connection.
 accepts() { preloaded "int accept4(int fd, struct sockaddr *from, socklen_t *size, int flags) { $1; return syscall(SYS_accept4, fd, from, size, flags); }"; }
+# frees CONDITION: prints lines for a program that keeps a block with this condition of its size.
+frees() { preloaded "size_t malloc_usable_size(void *); void __libc_free(void *); void free(void *p) { size_t size = malloc_usable_size(p); if ($1) memset(p, 1, 4096); else __libc_free(p); }"; }
 # relayed FAULT: prints lines that start the program behind the relay.
 relayed() { echo "exec python3 '$work/relay.py' $1 \"\$program\" \"\$@\""; }
 
@@ -388,6 +390,11 @@ wrong_service() {
     service_wrong unlimited 'a limit that was not asked for' 'ended early' "$(option 'struct timeval t = {1, 0}; if (name == SO_RCVTIMEO) value = &t')"
     service_wrong many 'a descriptor for each session' 'leave descriptors behind' "$(accepts 'open("/dev/null", O_RDONLY)')"
     service_wrong many 'memory for each session' 'after 100 sessions' "$(accepts 'memset(malloc(8192), 1, 8192)')"
+    service_wrong queues 'large blocks that it keeps' 'does not return the memory' "$(frees 'size > 1000000')"
+    service_wrong queues 'blocks of empty queues that it keeps' 'swaps of empty queues' "$(frees 'size > 1000000 && size < 16000000')"
+    service_wrong queues 'the limit of the C library' 'does not return the memory' 'unset MALLOC_MMAP_THRESHOLD_' 'exec "$program" "$@"'
+    service_wrong queues 'twice the memory for a queue' 'full queues took' \
+        "$(preloaded 'void *__libc_malloc(size_t n); void *malloc(size_t n) { if (n < 1000000) return __libc_malloc(n); return memset((char *)__libc_malloc(2 * n) + n, 1, n) - n; }')"
 }
 
 # wrong_log: lines of --log that are left out, wrong, mixed, forged or not asked for.
