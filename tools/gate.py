@@ -90,7 +90,7 @@ SCRIPTS = (
     Part("filters", "IPFilter and IPClassifier decide, and refuse texts, as a model of their patterns does, and tcpdump", "tools/filters.py", (PROG,)),
     Part("gateway", "the router connects two Linux networks", "examples/gateway/run.sh", (PROG,)),
     Part("ethernet", "the router answers ARP and ICMP between two Ethernets with Linux hosts", "examples/ethernet/run.sh", (PROG,)),
-    Part("testbed", "a line and a ring of routers carry pings over swaps, around a dead router and in a flood", "examples/testbed/run.sh --test", (PROG,), ("time",)),
+    Part("testbed", "a line, a ring and a tree of routers carry pings over swaps, around a dead router and in a flood", "examples/testbed/run.sh --test", (PROG,), ("time",)),
     Part("page", "the page answers, shows and controls a running router", "tools/page.py", (PROG,)),
     Part("install", "what ./install.sh installs works, and is removed completely", "tools/install.py", (PROG,)),
     Part("package", "the Debian package works in a clean root, with systemd", "tools/package.py", (PROG,)),

@@ -1,7 +1,8 @@
 #!/usr/bin/env bash
 # Starts a topology of routers and hosts, and checks it by pings, traceroutes and a flood. Swaps
 # change routes while pings pass, and a router is killed and routed around. If there are no
-# namespaces or no TUN device, prints so and checks nothing.
+# namespaces or no TUN device, prints so and checks nothing. The status is 5 then, and 0 for the
+# tests of the gate.
 #
 # README.md describes topologies and steps, and `usage` below has the forms of the command. All
 # processes and namespaces end with the script, also after Ctrl-C. PROGRAM names another program
@@ -29,7 +30,7 @@ examples/testbed/run.sh TOPOLOGY..                   checks these topologies, on
 examples/testbed/run.sh --keep TOPOLOGY              starts a topology, and runs until Ctrl-C
 examples/testbed/run.sh --machine ADDRESS TOPOLOGY   starts its routers at this address likewise
 examples/testbed/run.sh --text ROUTER TOPOLOGY       prints the configuration of a router
-examples/testbed/run.sh --test [PART..]              runs the tests: topologies, line, ring, live
+examples/testbed/run.sh --test [PART..]              runs the tests: topologies, line, ring, tree, live
 examples/testbed/run.sh --wrongs [NAME..]            checks that wrong testbeds are refused
 E
     exit 2
@@ -69,19 +70,24 @@ case ${1:-} in
 esac
 . "$here/../../tools/lib/checking.sh"
 . "$here/../../tools/lib/namespaces.sh"
+# shellcheck disable=SC2034 # left_out reads it
+case ${1:-} in
+--test | --wrongs) ;;
+*) left_out_status=5 ;;
+esac
 is_built "$program"
 
 # tests PART..: runs these parts of the test until one fails, or all. The line is checked with
-# probe.py, and the ring with ping and traceroute if they are there.
+# probe.py, and the ring and the tree with ping and traceroute if they are there.
 tests() {
     local part
     status=0
-    if [ $# = 0 ]; then set -- topologies line ring live; fi
+    if [ $# = 0 ]; then set -- topologies line ring tree live; fi
     for part; do
         case $part in
         topologies) python3 "$here/topology_test.py" "$program" || status=$? ;;
         line) WITHOUT='ping traceroute' starts --net check "$here/line.topology" ;;
-        ring) starts --net check "$here/ring.topology" ;;
+        ring | tree) starts --net check "$here/$part.topology" ;;
         live) starts --net live "$self" ;;
         *) usage ;;
         esac

@@ -1,6 +1,6 @@
 #!/usr/bin/env python3
 """Checks topologies without starting them: which are refused and why, the paths of the shipped ones,
-and the words of run.sh.
+the words of run.sh, and its status if it can start nothing.
 
     topology_test.py PROGRAM
 """
@@ -126,10 +126,24 @@ def check_words(program: str) -> None:
     same((0, True), (did.returncode, "\n1 10.0.2.2200 Goodbye!" in did.stdout), f"a router with the configuration of b: {did.stdout} {did.stderr}")
 
 
+def check_left_out(program: str) -> None:
+    """Checks the status of run.sh where no namespaces can be made."""
+    line = f"{HERE}/line.topology"
+    with tempfile.TemporaryDirectory() as folder:
+        with open(f"{folder}/unshare", "w", encoding="ascii") as it:
+            it.write("#!/bin/sh\nexit 1\n")
+        os.chmod(f"{folder}/unshare", 0o755)
+        variables = {**os.environ, "PATH": f"{folder}:{os.environ['PATH']}", "PROGRAM": program}
+        for given, wanted in (([line], 5), ([line, line], 5), (["--keep", line], 5), (["--machine", "127.0.0.1", line], 5), (["--test", "line"], 0)):
+            did = subprocess.run([f"{HERE}/run.sh", *given], env=variables, capture_output=True, text=True, check=False)
+            same((wanted, True), (did.returncode, did.stdout.startswith("left out: ")), f"status and output of run.sh {' '.join(given)} without namespaces: {did.stdout} {did.stderr}")
+
+
 def main(given: list[str]) -> int:
     check_refused()
     check_paths()
     check_words(given[0])
+    check_left_out(given[0])
     print(f"{len(REFUSED) + 1} topologies are refused, and the paths of {len(PATHS)} are right")
     return 0
 

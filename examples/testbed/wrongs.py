@@ -188,6 +188,7 @@ class WrongScript(NamedTuple):
 WRONG_SCRIPTS = {
     "paths that are not the shortest": WrongScript("topologies", "the routers from", "examples/testbed/topology.py", "in dear else 1)", "in dear else 9 - it.number)"),
     "topologies that overlap": WrongScript("topologies", "why this topology is refused", "examples/testbed/topology.py", "not it.network.overlaps(network)", "True"),
+    "a topology that passes unchecked": WrongScript("topologies", "without namespaces", "examples/testbed/run.sh", "left_out_status=5", "left_out_status=0"),
     "processes that are left": WrongScript("live", "no process is left after signal", "tools/lib/namespaces.sh", " --kill-child", ""),
     "links between other ports": WrongScript("live", "whether a ping from left to right is answered", "examples/testbed/bed.py", "={here},{there}", "={here},{there[:-1]}9"),
     "a host that cannot be entered": WrongScript("live", "whether a ping from left to right is answered", "examples/testbed/testbed.py", "--net=/run/netns/{name}", "--net=/proc/self/ns/net"),

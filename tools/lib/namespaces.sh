@@ -10,10 +10,13 @@
 namespaces=(unshare --mount --pid --fork --kill-child --mount-proc)
 if [ "$(id -u)" != 0 ]; then namespaces+=(--user --map-root-user); fi
 
-# left_out WHY: prints what is missing and exits with status 0.
+# The status of a script that is left out. The gate's scripts have status 0.
+left_out_status=0
+
+# left_out WHY: prints what is missing and exits with that status.
 left_out() {
     echo "left out: $1"
-    exit 0
+    exit "$left_out_status"
 }
 
 # needs KIND PROGRAM..: leaves the script out if this machine lacks one of the programs. Likewise if
