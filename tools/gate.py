@@ -9,9 +9,10 @@
     ./test.sh --list            prints the name and the purpose of each part
 
 A part runs even if an earlier one failed. If its program is not built, it is not run and counts as
-failed. At the end the gate prints the times of each part (also in out/gate-times.txt), the
-failures, and `N passed, M failed`. The output of each part is in out/gate/. The exit status is 0 if
-all parts passed, 1 if one failed, and 2 for a name that is not a part.
+failed. At the end the gate prints the times of each part (also in out/gate-times.txt), what the
+parts left out for lack of a package, the failures, and `N passed, M failed`. The output of each
+part is in out/gate/. The exit status is 0 if all parts passed, 1 if one failed, and 2 for a name
+that is not a part.
 """
 
 from __future__ import annotations
@@ -85,7 +86,7 @@ SCRIPTS = (
     Part("examples", "the examples of pages and files give the output that they show", "tools/examples.py", (PROG, PLAYER), ("7777",)),
     Part("tutorial", "the commands of docs/TUTORIAL.md print what it shows", "tools/tutorial.py", (PROG,)),
     Part("sessions", "concurrent sessions over TCP get replies that one thread could get", "tools/sessions.sh", (PROG,), ("7777",)),
-    Part("service", "sessions end in time, lose no reply at their end, and leave nothing behind", "tools/service.py", (PROG,), ("time",)),
+    Part("service", "sessions end in time, lose no reply at their end, leave nothing behind, and swaps return memory", "tools/service.py", (PROG,), ("time",)),
     Part("log", "--log prints a line for each session, swap and write, which no client can forge", "tools/session_log.py", (PROG,)),
     Part("filters", "IPFilter and IPClassifier decide, and refuse texts, as a model of their patterns does, and tcpdump", "tools/filters.py", (PROG,)),
     Part("gateway", "the router connects two Linux networks", "examples/gateway/run.sh", (PROG,)),
@@ -244,8 +245,18 @@ def table_of(runs: list[Run], clock: float) -> str:
     return "".join(f"{row[0]:{name}}  {row[1]:{over}}  {row[2]:>10}  {row[3]:>7}  {row[4]}".rstrip() + "\n" for row in rows)
 
 
+def left_out_of(runs: list[Run]) -> str:
+    """Returns a line for each check that a run left out, as its output says."""
+    begins = "left out: "
+    found = [(run.title, line.removeprefix(begins)) for run in runs for line in run.lines() if line.startswith(begins)]
+    return "".join(f"    {title}: {what}\n" for title, what in dict.fromkeys(found))
+
+
 def report(runs: list[Run], clock: float) -> int:
-    """Prints the table, the end of each failed run's output, and the counts; returns the status."""
+    """Prints the table, what was left out, the end of each failed run's output, and the counts.
+
+    Returns the status.
+    """
     table = table_of(runs, clock)
     with open(TIMES, "w", encoding="utf-8") as it:
         it.write(table)
@@ -255,6 +266,8 @@ def report(runs: list[Run], clock: float) -> int:
         say("what the proofs took, in minutes of processors")
         with open(CRATE_TIMES, encoding="ascii") as it:
             print(it.read(), end="")
+    left_out = left_out_of(runs)
+    say(f"left out for lack of a package or a right:\n{left_out}" if left_out else "nothing was left out")
     failed = [it for it in runs if it.why]
     for run in failed:
         say(f"FAILED: {run.title}: {run.why}")

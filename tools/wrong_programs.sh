@@ -697,8 +697,8 @@ wrong_page_text() {
 # --- test.sh. ---
 
 # gate_tree: makes a tree with the runner of the gate and stand-ins for its scripts. Each of them
-# passes, unless the variable FAILS names it. Those that build programs write trivial ones, unless
-# BUILDS is `nothing`.
+# passes, unless the variable FAILS names it, and leaves nothing out, unless LEAVES names it. Those
+# that build programs write trivial ones, unless BUILDS is `nothing`.
 gate_tree() {
     local file made
     mkdir -p "$work/gate/tools/lib" "$work/gate/examples/gateway" "$work/gate/examples/ethernet" "$work/gate/examples/testbed" "$work/gate/crates"
@@ -712,7 +712,9 @@ gate_tree() {
         case $file in
         tools/gate.py | tools/lib/proofs.sh | tools/quick_build.py) continue ;;
         esac
-        printf '#!/bin/sh\necho "%s $* over ${PROGRAM:-the proved program}"\ncase " $FAILS " in *" %s "*) exit 1 ;; esac\n' "$file" "$file" > "$work/gate/$file"
+        printf '#!/bin/sh\necho "%s $* over ${PROGRAM:-the proved program}"\n%s\n%s\n' "$file" \
+            "case \" \$LEAVES \" in *\" $file \"*) echo 'left out: a check, because there is no tool'; echo 'not left out: one' ;; esac" \
+            "case \" \$FAILS \" in *\" $file \"*) exit 1 ;; esac" > "$work/gate/$file"
     done
     made='mkdir -p "$at" && cp /bin/true "$at/$it"'
     printf '#!/bin/sh\ncase $BUILDS in nothing) exit ;; esac\nfor it; do at=crates/$it/out/quick; %s; done\n' "$made" > "$work/gate/tools/quick_build.py"
@@ -746,6 +748,12 @@ gate() {
     gate_tree
     gate_ends 0 'parts that pass'
     gate_says "tools/client.sh  over $work/gate/crates/click_prog/out/quick/click_prog" 'tools/client.sh  over the proved program' 'client  *proved .* passed'
+    gate_says 'test.sh: nothing was left out'
+    LEAVES='tools/links.py tools/client.sh' gate_ends 0 'parts that leave a check out'
+    same "test.sh: left out for lack of a package or a right:
+    links: a check, because there is no tool
+    client (unproved): a check, because there is no tool
+    client (proved): a check, because there is no tool" "$(grep -A 3 '^test.sh: left out' "$work/out")" 'what the gate says of parts that leave a check out'
     gate_ends 0 'programs that were proved before' client
     gate_says 'tools/client.sh  over the proved program'
     FAILS='tools/links.py' gate_ends 1 'a part that fails before one that passes' links definitions
