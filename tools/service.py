@@ -1,9 +1,9 @@
 #!/usr/bin/env python3
 """Checks that the router serves sessions over TCP for a long time. No reply is lost when a session
 ends, also if its client goes on sending. A client that keeps its session waiting is ended after
-the time of --idle, and a slow one is not. After 2,000 sessions that end in many ways the program
-has the memory, descriptors and threads that it had after the first hundred. A swap to smaller
-queues returns the memory of the large ones.
+the time of --idle, and a slow one is not. Peers are probed, so that TCP finds one that went away.
+After 2,000 sessions that end in many ways the program has the memory, descriptors and threads that
+it had after the first hundred. A swap to smaller queues returns the memory of the large ones.
 
     tools/service.py [CASE..]
 
@@ -13,9 +13,12 @@ the script with status 1.
 """
 from __future__ import annotations
 
+import contextlib
+import ctypes
 import os
 import re
 import socket
+import stat
 import struct
 import subprocess
 import sys
@@ -47,6 +50,16 @@ DISCARD_SECONDS, DISCARD_BYTES = 2, 2_097_152
 SLOTS, FIRST, ALL, WAVES = 64, 100, 2000, 4
 # The maximum growth of memory after the first wave, and over swaps of queues, in kB.
 MAX_GROWTH_KB = 2048
+# The options of TCP that find a peer that went away: their levels and names in Linux, and their
+# values (docs/CONTROL.md). The times are in seconds.
+KEEPALIVE = {
+    "whether peers are probed": (socket.SOL_SOCKET, socket.SO_KEEPALIVE, 1),
+    "the time before the first probe": (socket.IPPROTO_TCP, socket.TCP_KEEPIDLE, 60),
+    "the time between probes": (socket.IPPROTO_TCP, socket.TCP_KEEPINTVL, 15),
+    "the number of probes": (socket.IPPROTO_TCP, socket.TCP_KEEPCNT, 4),
+}
+# The number of the system call pidfd_getfd (Linux 5.6).
+PIDFD_GETFD = 438
 # The number of queues that are filled, their capacities, and the bytes that a packet of a queue
 # takes (docs/CONTROL.md says about 1.7 kB).
 FILLED, LARGE, SMALL, PLACE_BYTES = 8, 9_999, 10, 1_700
@@ -267,6 +280,39 @@ def many() -> None:
         raise Wrong(f"after {FIRST} sessions: {first}; after {ALL}: {last}")
 
 
+def keepalive() -> None:
+    """Checks the options that find a client that went away, at the connection of a session."""
+    for options in ([], ["--live", "--idle", "0"]):
+        with Router(TEXT, 1, *options) as router, router.connect() as peer:
+            same(GREETING, peer.recv(len(GREETING)), "the greeting")
+            with connection_of(router.process.pid, peer) as connection:
+                for what, (level, name, wanted) in KEEPALIVE.items():
+                    came = connection.getsockopt(level, name)
+                    if came != wanted:
+                        raise Wrong(f"{what}: wanted {wanted}, came {came}")
+
+
+def connection_of(process: int, peer: socket.socket) -> socket.socket:
+    """Returns a copy of the socket by which a process is connected with this peer."""
+    system, handle = ctypes.CDLL(None, use_errno=True), os.pidfd_open(process)
+    try:
+        for name in os.listdir(f"/proc/{process}/fd"):
+            copy = system.syscall(PIDFD_GETFD, handle, int(name), 0)
+            if copy < 0:
+                raise OSError(ctypes.get_errno(), "the descriptors of the program cannot be copied")
+            if not stat.S_ISSOCK(os.fstat(copy).st_mode):
+                os.close(copy)
+                continue
+            found = socket.socket(fileno=copy)
+            with contextlib.suppress(OSError):
+                if found.getpeername() == peer.getsockname():
+                    return found
+            found.close()
+    finally:
+        os.close(handle)
+    raise Wrong("the program has no connection with the client")
+
+
 def variable_of_clickd() -> dict[str, str]:
     """Returns the variable of the allocator with which clickd starts a router."""
     with open(f"{TOP}/service/clickd.sh", encoding="utf-8") as it:
@@ -317,7 +363,7 @@ def queues() -> None:
             raise Wrong(f"{SWAPS} swaps of empty queues took {after - before} kB")
 
 
-CASES = {case.__name__: case for case in (replies, limits, silent, unread, slow, unlimited, many, queues)}
+CASES = {case.__name__: case for case in (replies, limits, silent, unread, slow, unlimited, keepalive, many, queues)}
 
 
 def main(words: list[str]) -> int:
