@@ -17,7 +17,8 @@ the run ends with status 3. In both cases no output is wrong.
     datagrams   a datagram for whose packet there is no memory
 
 The programs must have been built. PROGRAM and PLAYER name other programs to check, CALLS and PCAP
-other programs for the modes --calls and --pcap of click_prog. tools/alloc_failures.c is compiled
+other programs for the modes --calls and --pcap of click_prog. SCRIPT is the path of another
+script than tests/memory.script, from the top of the repository. tools/alloc_failures.c is compiled
 with the C compiler cc. The first failure ends the script with status 1.
 """
 
@@ -397,7 +398,7 @@ def pcap(it: Refusing) -> None:
     it.passed("while a capture goes through a router")
 
 
-SCRIPT = "tests/memory.script"
+SCRIPT = os.environ.get("SCRIPT") or "tests/memory.script"
 # The number of allocations of the script that may have no effect. One is for the command line. The
 # other one is for the install signal of the swap at a desk with a view. That signal carries no
 # guarantee: the view learns of the swap by its notice.
@@ -405,18 +406,19 @@ UNNOTICED = 2
 
 
 def steps_of(file: str) -> dict[int, str]:
-    """Returns the steps of a test script that make a call, by line number."""
+    """Returns the steps of a test script that make a call or list names, by line number."""
     steps = {at: line for at, line in enumerate(lines_of(file), 1) if line and not line.startswith(("#", "case\t"))}
     return {at: line for at, line in steps.items() if line.split("\t")[0] in CALLING or re.match(CALLS, line)}
 
 
-# The first columns of the steps that call a function that allocates, and the words of calls that do.
+# The first columns of the steps that call a function that allocates, and the words of calls that do
+# and of a view that lists names.
 CALLING = ("parsed", "prepared", "make", "open", "poll", "round", "settle")
-CALLS = r"\d+\t(read|write|checkread|checkwrite|swap|arrive|transmit) |\d+\tround\t"
+CALLS = r"\d+\t(read|write|checkread|checkwrite|swap|arrive|transmit) |\d+\tround\t|view\t\d+ names\t"
 
 
 def scripts(it: Refusing) -> None:
-    """Checks the steps of tests/memory.script.
+    """Checks the steps of tests/memory.script, or of the script that SCRIPT names.
 
     A refused call is made again, and each later step gets the reply that the script expects.
     """
@@ -440,9 +442,9 @@ def scripts(it: Refusing) -> None:
     for line, step in steps.items():
         if line not in again:
             fail(f"{SCRIPT}:{line}: no allocation of this step was refused: {step}")
-        # A step that prepares or swaps answers with out of memory, whichever of its allocations is
-        # refused. So between the first and the last of them no refusal ends the run.
-        if step.startswith("prepared\t") or "\tswap " in step:
+        # A step that prepares, swaps or lists names answers with out of memory, whichever of its
+        # allocations is refused. So between the first and the last of them no refusal ends the run.
+        if step.startswith(("prepared\t", "view\t")) or "\tswap " in step:
             same(again[line][-1] - again[line][0] + 1, len(again[line]), f"{SCRIPT}:{line}: the refused allocations that were answered, of those from the first to the last")
     it.passed(f"in {SCRIPT}")
 

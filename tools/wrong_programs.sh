@@ -64,8 +64,9 @@ refuses() {
 
 # --- Programs: examples, refused allocations, swaps, captures, a client. ---
 
-# wrong_prog, wrong_calls, wrong_pcap SCRIPT WHAT CHANGE: check that the script refuses click_prog,
-# or one of its modes --calls and --pcap, with the change.
+# wrong_prog, wrong_calls, wrong_pcap, wrong_player SCRIPT WHAT CHANGE: check that the script refuses
+# click_prog, or one of its modes --calls and --pcap, or click_player, with the change.
+wrong_player() { refuses PLAYER "$player" "$@"; }
 wrong_prog() { refuses PROGRAM "$program" "$@"; }
 wrong_calls() { refuses CALLS "$calls" "$@"; }
 wrong_pcap() { refuses PCAP "$pcap" "$@"; }
@@ -176,6 +177,16 @@ wrong_allocations() {
     wrong_prog 'tools/alloc_failures.py pictures' 'a piece of a picture if out of memory' 'if [ $status = 3 ]; then echo "<svg>" > "$out"; fi'
     wrong_calls 'tools/alloc_failures.py calls' 'a reply if out of memory' 'if [ $status = 3 ]; then echo done >> "$out"; fi'
     wrong_pcap 'tools/alloc_failures.py pcap' 'no word of what stops it' 'if [ $status = 3 ]; then sed -i /^error/d "$err"; fi'
+    printf 'case\tA case.\nopen\troom=9 views=1 Idle -> c :: Counter -> Discard;\topened\nview\t0 names\tIdle@1 c Discard@3 \nview\t0 read c.count\tyes\n' > "$work/names.script"
+    SCRIPT=$(realpath --relative-to=. "$work/names.script")
+    export SCRIPT
+    wrapped "$work/click_player" "$player" ''
+    passes 'a view that lists names' env "PLAYER=$work/click_player" tools/alloc_failures.py scripts
+    wrong_player 'tools/alloc_failures.py scripts' 'another configuration in a view after a refused list of names' \
+        "if grep -q ':3: out of memory' \"\$out\"; then printf '%s\n' \"\$SCRIPT:4: A case.\" '  expected: yes' '  actual:   NoElement' '0 cases passed, 1 failed' >> \"\$out\"; status=1; fi"
+    wrong_player 'tools/alloc_failures.py scripts' 'no word of a refused list of names' "sed -i '/:3: out of memory/d' \"\$out\""
+    wrong_player 'tools/alloc_failures.py scripts' 'a run that ends with a refused list of names' "if grep -q ':3: out of memory' \"\$out\"; then : > \"\$out\"; status=3; fi"
+    unset SCRIPT
     # Without a C compiler no allocation can be refused, which has to be a failure.
     mkdir "$work/without"
     is_refused 'no C compiler' env "PATH=$work/without" "$(python3 -c 'import sys; print(sys.executable)')" tools/alloc_failures.py pcap
