@@ -160,6 +160,7 @@ wrong_calls_of_examples() {
     wrong_calls 'tools/examples.py books' 'a book that always holds' 'echo "replayed 3 calls, all replies the same" > "$out"; status=0'
     wrong_calls 'tools/examples.py books' 'another line of a book' 'sed -i "s/^line 2/line 1/" "$out"'
     wrong_calls 'tools/examples.py files' 'another value' 'sed -i "s/^value 353132/value 353131/" "$out"'
+    wrong_calls 'tools/examples.py files' 'packets that enter from a device without a source' 'sed -i "s/^nodevice/entered 2/" "$out"'
     wrong_calls 'tools/examples.py files' 'no paint' 'sed -i "s/ 7 / 0 /" "$out"'
     wrong_calls 'tools/examples.py sections' 'another byte' 'sed -i "s/ 255 / 254 /" "$out"'
     wrong_calls 'tools/examples.py dialogue' 'another value' 'sed -i "s/^value 3/value 2/" "$out"'

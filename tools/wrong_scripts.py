@@ -1,6 +1,6 @@
 #!/usr/bin/env python3
 """Checks that the player of test scripts can fail. It reports a wrong expected reply of each kind
-of step at a desk, and a fault of a script ends it.
+of step at a desk, and of the steps that prepare a text. A fault of a script ends it.
 
     tools/wrong_scripts.py
 
@@ -23,6 +23,7 @@ OPEN = "open\tseats=2 views=1 feeds=a:2 FromDevice(a) -> c :: Counter -> q :: Qu
 DESK = f"case\tA case.\n{OPEN}opened\n"
 LINKED = f"{DESK}links\ta a 1\tlinked\n"
 CLOSED = f"{DESK}close\t0 1\tclosed 0\n"
+FULL = "case\tA case.\nopen\troom=1 Idle -> c :: Counter -> Discard;\topened\n0\tread c.count\ttext 0\n"
 # Lines of a script whose last step expects a wrong reply, and the actual reply.
 WRONG_REPLIES = [
     (f"case\tA case.\n{OPEN}open\n", "opened"),
@@ -71,6 +72,13 @@ WRONG_REPLIES = [
         r'<g id="e1" transform="translate(48,130)"><rect class="box" width="76" height="46"/><text y="21" x="38">d</text>'
         r'<text class="class" y="33" x="38">Discard</text><path class="push" d="M33 0h10l-5 7z"/><path class="rim" d="M29 0h18l-9 12z"/></g>\0a</svg>\0a',
     ),
+    (f"{FULL}0\tread c.count\ttext 0\n", "history full"),
+    (f"{FULL}round\t0\tworked 0\n", "history full"),
+    (f"{FULL}calls\t0\t2\n", "1"),
+    ("case\tA case.\nmake\tClassifier \\*256(0/00, )-\tmade\n", "21 ArgumentCount"),
+    ("case\tA case.\nmake\tStaticIPLookup \\*1025(1.2.3.4 0, )\t26 BadEntry\n", "21 ArgumentCount"),
+    ("case\tA case.\nparsed\t\\*2({{}};)\t2 statements, 2 bodies\n", "2 statements, 4 bodies"),
+    ("case\tA case.\nprepared\t\\*1048577( )\t0\n", "6 TooLarge"),
 ]
 READS = "< READ x.count\n> 510 No element named 'x'\n< FOO\n> 501 Unimplemented command 'FOO'\n"
 FIRST = r"510 No element named 'x'\0d\0a"
@@ -83,6 +91,8 @@ WRONG_SESSIONS = [
     (f"session\t0\tquit\n{READS}", "end of input", None),
     (f"session\t0\tend of input\n{READS}> x\n", "end of input", (BOTH + r"x\0d\0a", BOTH)),
     ("session\t0 pieces=1 reads=2\tread failed\n< READ x.count\n", "read failed, 2 reads", None),
+    # The input has 17 bytes, and the fourth read finds its end.
+    (f"session\t0 pieces=7 reads=9\tend of input, 3 reads\n{READS}", "end of input, 4 reads", None),
     ("session\t0 takes=5 fails=write:1\twrite failed\n", "write failed, no greeting", None),
     (f"run\t{COUNTED}\tend of input, 2 calls\n{READS}", "end of input, 1 calls", None),
     (f"run\tcheck=c.count {COUNTED}\tend of input, 1 calls, no\n{READS}", "end of input, 1 calls, yes", None),
