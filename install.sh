@@ -57,6 +57,7 @@ files() {
 644 share/man/man5/click.5 (click)
 644 share/doc/wuthkeam/examples/line.click service/line.click
 644 share/doc/wuthkeam/examples/line.conf service/line.conf
+644 share/doc/wuthkeam/examples/alerts.yml service/alerts.yml
 755 lib/click/clickctl clients/clickctl clients/clickctl
 644 lib/click/click_client.py clients/clickctl clients/click_client.py
 link bin/clickctl clients/clickctl (link)

@@ -21,12 +21,14 @@ import socket
 import subprocess
 import sys
 import time
+import urllib.request
 from collections.abc import Iterator
 from contextlib import ExitStack, contextmanager, suppress
 from unittest.mock import patch
 
 sys.dont_write_bytecode = True
 sys.path.insert(0, f"{os.path.dirname(os.path.realpath(__file__))}/lib")
+from alerts import metrics_of, test_of
 from installing import SECONDS, Edit, LeftOut, Ran, Tree, Wrong, ask, files_below, free_ports, has, main_of, ran, same, until, value_of
 
 PREFIX = "usr/local"
@@ -39,6 +41,7 @@ FILES = {
     "share/man/man5/click.5": "644",
     "share/doc/wuthkeam/examples/line.click": "644",
     "share/doc/wuthkeam/examples/line.conf": "644",
+    "share/doc/wuthkeam/examples/alerts.yml": "644",
 }
 FILES_OF_CLICKCTL = {
     "bin/clickctl": "-> ../lib/click/clickctl",
@@ -211,6 +214,25 @@ def completes_clickctl(tree: Tree) -> None:
     with started(tree, b"Idle -> count :: Counter -> cue :: Queue -> Discard;") as (port, _):
         same(["count.", "cue."], completed(tree, "clickctl", "-p", str(port), "read", "c"), "elements")
         same(["count.byte_count"], completed(tree, "clickctl", "-p", str(port), "watch", "count.b"), "handlers of an element")
+
+
+def alerts(tree: Tree) -> None:
+    """Checks when the alerts for Prometheus come, and that a router has their metrics."""
+    tree.installed()
+    examples = f"{tree.dest}/{PREFIX}/share/doc/wuthkeam/examples"
+    with open(f"{examples}/alerts.yml", encoding="ascii") as it:
+        wanted = metrics_of(it.read())
+    page, ports = free_ports(1)[0], free_ports(2, socket.SOCK_DGRAM)
+    with started(tree, b"FromDevice(a) -> c :: Counter -> q :: Queue -> ToDevice(a);", "--page", str(page), "--link", f"a={ports[0]},{ports[1]}"):
+        with urllib.request.urlopen(f"http://127.0.0.1:{page}/metrics", timeout=SECONDS) as response:
+            metrics = response.read().decode()
+    same([], sorted(wanted - set(re.findall(r"^# TYPE (\w+) ", metrics, re.M))), "the metrics of the alerts that a router does not have")
+    for handler in ("drops", "length", "capacity"):
+        has(metrics, f'class="Queue",handler="{handler}"', "the metrics of a queue")
+    if not shutil.which("promtool"):
+        raise LeftOut("there is no promtool (apt-get install prometheus)")
+    did = ran("promtool", "test", "rules", tree.write("../alerts_test.yml", test_of(f"{examples}/alerts.yml").encode()))
+    same(0, did.status, f"the alerts: {did.out}{did.err}")
 
 
 # ---- The unit
@@ -468,6 +490,7 @@ CHECKS = {
     "an upgrade leaves a running router alone": upgrades,
     "the manual pages": pages,
     "the completion": completes,
+    "the alerts for Prometheus": alerts,
     "systemd accepts the unit": accepted,
     "the lines of the unit": unit_lines,
     "a router starts from a file with options": starts,
@@ -497,6 +520,10 @@ WRONGS = {
     "page-without-options": Edit("the manual pages", "service/manual.py", "sections += [f'.SH", "continue\n            sections += [f'.SH"),
     "completes-values": Edit("the completion", "service/click_prog.bash", "-e | -p | -n", "-e | -n"),
     "completes-no-mode": Edit("the completion", "service/click_prog.bash", '${mode:+"$mode"} ', ""),
+    "alert-of-no-metric": Edit("the alerts for Prometheus", "service/alerts.yml", "process_resident_memory_bytes", "process_memory_bytes"),
+    "alert-that-never-comes": Edit("the alerts for Prometheus", "service/alerts.yml", "click_sessions >= click", "click_sessions > click"),
+    "alert-of-idle-links": Edit("the alerts for Prometheus", "service/alerts.yml", " and click_link_received_total > 0", ""),
+    "alert-of-old-drops": Edit("the alerts for Prometheus", "service/alerts.yml", 'increase(click_handler_total{handler="drops"}[5m])', 'click_handler_total{handler="drops"}'),
     "unknown-key": Edit("systemd accepts the unit", "service/click@.service", "RestartSec=1", "RestartSecs=1"),
     "root": Edit("systemd accepts the unit", "service/click@.service", "DynamicUser=yes\nCapabilityBoundingSet=\n", ""),
     "always-restarts": Edit("the lines of the unit", "service/click@.service", "RestartPreventExitStatus=1 2\n", ""),

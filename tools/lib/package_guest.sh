@@ -108,6 +108,8 @@ try_end() {
         sleep 0.1
     done
     note back "$(if [ "$(process line)" = "$number" ]; then echo same; else echo other; fi) $(systemctl is-active click@line) $(ask 'READ list')"
+    note restarts "$(systemctl show -p NRestarts click@line)"
+    note limit "$(tr '\0' '\n' < "/proc/$(process line)/environ" | grep MALLOC_)"
     { printf '// '; head -c 200000 /dev/zero | tr '\0' x; printf '\nIdle -> long :: Counter -> Discard;\n'; } > /etc/click/line.click
     note long "$(status_of systemctl restart click@line) $(ask 'READ list')"
 }
