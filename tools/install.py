@@ -537,6 +537,8 @@ WRONGS = {
     "reload-that-lies": Edit("a reload installs or changes nothing", "service/clickd.sh", "[0-9][0-9][0-9]' '*) stop 1", "[0-9][0-9][0-9]' '*) echo"),
     "reload-of-lines": Edit("a reload installs or changes nothing", "service/clickd.sh", "copy=$(mktemp)\n", 'copy=$(mktemp)\n    set -- <(tr "\\n" " " < "$1")\n'),
     "reload-without-fault": Edit("a reload installs or changes nothing", "service/clickd.sh", "goes on unchanged: ${reply#520 }", "goes on unchanged"),
+    "readonly-that-lies": Edit("a reload of a router that may only be read", "service/clickd.sh", "'200 Write handler'*) ;;", "'200 Write handler'* | 530*) ;;"),
+    "readonly-by-clickctl": Edit("a reload of a router that may only be read", "service/clickd.sh", '|| stop $? "$file: the swap failed, and the router goes on unchanged"', "|| true"),
     "reload-of-others": Edit("a reload after a change of the port", "service/clickd.sh", 'set -- "${words[@]:2}"', ":"),
     "half-installed": Edit("nothing is half installed", "install.sh", "    make_all\n", "    make_all || true\n"),
     "waits-too-long": Edit("no router", "service/clickd.sh", "if has_ended; then stop 4 'the router has ended'; fi\n        if [ $status", "if [ $status"),

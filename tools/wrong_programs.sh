@@ -284,7 +284,7 @@ retold() { echo "told=\$(mktemp -u '$work/told.XXXX'); mkfifo \"\$told\"; sed -u
 preloaded() {
     local library
     library=$(mktemp "$work/library.XXXX.so")
-    printf '%s\n' '#define _GNU_SOURCE' '#include <fcntl.h>' '#include <stdlib.h>' '#include <string.h>' '#include <sys/socket.h>' \
+    printf '%s\n' '#define _GNU_SOURCE' '#include <fcntl.h>' '#include <pthread.h>' '#include <stdlib.h>' '#include <string.h>' '#include <sys/socket.h>' \
         '#include <sys/syscall.h>' '#include <sys/time.h>' '#include <unistd.h>' "$1" | cc -shared -fPIC -xc -o "$library" -
     echo "exec env LD_PRELOAD='$library' \"\$program\" \"\$@\""
 }
@@ -404,7 +404,9 @@ wrong_service() {
     service_wrong keepalive 'late probes' 'the time before the first probe' "$(option 'if (level == 6 && name == 4) return 0')"
     service_wrong keepalive 'other probes' 'the number of probes' "$(option 'if (level == 6 && name == 6) return 0')"
     service_wrong many 'a descriptor for each session' 'leave descriptors behind' "$(accepts 'open("/dev/null", O_RDONLY)')"
-    service_wrong many 'memory for each session' 'after 100 sessions' "$(accepts 'memset(malloc(8192), 1, 8192)')"
+    service_wrong many 'a thread for some sessions' 'threads after 100 sessions' \
+        "$(accepts 'static int count; pthread_t it; if (++count % 100 == 0) pthread_create(&it, 0, (void *(*)(void *))pause, 0)')"
+    service_wrong many 'memory for each session' 'memory after 100 sessions' "$(accepts 'memset(malloc(8192), 1, 8192)')"
     service_wrong queues 'large blocks that it keeps' 'does not return the memory' "$(frees 'size > 1000000')"
     service_wrong queues 'blocks of empty queues that it keeps' 'swaps of empty queues' "$(frees 'size > 1000000 && size < 16000000')"
     service_wrong queues 'the limit of the C library' 'does not return the memory' 'unset MALLOC_MMAP_THRESHOLD_' 'exec "$program" "$@"'
