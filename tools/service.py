@@ -15,6 +15,7 @@ from __future__ import annotations
 
 import contextlib
 import ctypes
+import errno
 import os
 import re
 import socket
@@ -44,8 +45,8 @@ LONG_WRITE = b"WRITEDATA hotconfig 1048577\n" + b"x" * 1_048_577
 # The seconds of --idle, and the seconds that a busy machine may need in addition.
 IDLE, SLACK = 1, 1.5
 # The seconds for which an ended session waits until its client closes, and the number of bytes of
-# the client that it discards.
-DISCARD_SECONDS, DISCARD_BYTES = 2, 2_097_152
+# the client that it discards. PIECE is the number of bytes that a client sends at a time.
+DISCARD_SECONDS, DISCARD_BYTES, PIECE = 2, 2_097_152, 262_144
 # The numbers of session slots, of sessions in the first wave, of all sessions, and of further waves.
 SLOTS, FIRST, ALL, WAVES = 64, 100, 2000, 4
 # The maximum growth of memory after the first wave, and over swaps of queues, in kB.
@@ -158,20 +159,43 @@ def limits() -> None:
         with live.connect() as goes_on:
             goes_on.sendall(b"QUIT\n")
             same(GREETING + GOODBYE, rest_of(goes_on), "QUIT")
-            sent = sent_until_refused(goes_on)
-            if sent < DISCARD_BYTES:
-                raise Wrong(f"of a client that goes on after QUIT only {sent} bytes were taken, and not {DISCARD_BYTES}")
+            sent, most = sent_until_refused(goes_on), DISCARD_BYTES + 3 * PIECE
+            if not DISCARD_BYTES <= sent <= most:
+                raise Wrong(f"a client could send {sent} bytes after QUIT, and not {DISCARD_BYTES} to {most}")
             takes(0, 1, "the session after one that goes on", live.serves_one)
 
 
+def waiting_bytes(peer: socket.socket) -> int:
+    """Returns how many bytes that the client sent are in the buffers of its connection."""
+    ends = [f"{port:04X}" for _, port in (peer.getsockname(), peer.getpeername())]
+    count = 0
+    with open("/proc/net/tcp", encoding="ascii") as rows:
+        for row in list(rows)[1:]:
+            local, remote, queues = (row.split()[at].split(":") for at in (1, 2, 4))
+            if [local[1], remote[1]] == ends:
+                count += int(queues[0], 16)
+            elif [remote[1], local[1]] == ends:
+                count += int(queues[1], 16)
+    return count
+
+
 def sent_until_refused(peer: socket.socket) -> int:
-    """Sends without end, and returns the number of bytes that were sent when the router refused."""
+    """Sends without end, and returns the number of bytes that were sent when the router refused.
+
+    Each piece is sent only after the router took all of the one before.
+    """
     sent = 0
     try:
         while True:
-            sent += peer.send(b"x" * 65536)
+            sent += peer.send(b"x" * PIECE)
+            until(lambda: waiting_bytes(peer) == 0, "the router does not take what a client sends")
     except (ConnectionResetError, BrokenPipeError):
         return sent
+    except OSError as error:
+        # The connection has no peer any more.
+        if error.errno == errno.ENOTCONN:
+            return sent
+        raise
 
 
 def silent() -> None:

@@ -292,6 +292,14 @@ preloaded() {
 option() { preloaded "int setsockopt(int fd, int level, int name, const void *value, socklen_t size) { $1; return syscall(SYS_setsockopt, fd, level, name, value, size); }"; }
 # accepts CODE: prints lines for a program that does this first when it accepts a connection.
 accepts() { preloaded "int accept4(int fd, struct sockaddr *from, socklen_t *size, int flags) { $1; return syscall(SYS_accept4, fd, from, size, flags); }"; }
+# discards CODE: prints lines for a program that does this after it receives bytes of a session that
+# it has ended. `got` is their number, and `taken` is 0 at first.
+discards() {
+    preloaded "static int ended = -1; static long taken;
+        int shutdown(int fd, int how) { ended = fd; return syscall(SYS_shutdown, fd, how); }
+        int accept4(int fd, struct sockaddr *from, socklen_t *size, int flags) { ended = -1; taken = 0; return syscall(SYS_accept4, fd, from, size, flags); }
+        ssize_t recv(int fd, void *to, size_t size, int flags) { long got = syscall(SYS_recvfrom, fd, to, size, flags, 0, 0); if (fd != ended) return got; $1; }"
+}
 # frees CONDITION: prints lines for a program that keeps a block with this condition of its size.
 frees() { preloaded "size_t malloc_usable_size(void *); void __libc_free(void *); void free(void *p) { size_t size = malloc_usable_size(p); if ($1) memset(p, 1, 4096); else __libc_free(p); }"; }
 # relayed FAULT: prints lines that start the program behind the relay.
@@ -394,6 +402,8 @@ wrong_service() {
     service_wrong replies 'connections that it resets' 'reset\|Broken pipe\|ends early' "$(preloaded 'int shutdown(int fd, int how) { return -1; }')"
     service_wrong limits 'connections that it closes at once' 'does not close took' "$(preloaded 'int shutdown(int fd, int how) { return -1; }')"
     service_wrong limits 'connections that it never closes' 'does not close took\|timed out' "$(option 'if (name == SO_RCVTIMEO) return 0')"
+    service_wrong limits 'input that it discards without a limit' 'bytes after QUIT' "$(discards 'return got > 1 ? 1 : got')"
+    service_wrong limits 'input that it hardly discards' 'bytes after QUIT' "$(discards 'return (taken += got) > 100000 ? 0 : got')"
     service_wrong silent 'a read that waits forever' 'timed out' "$(option 'if (name == SO_RCVTIMEO) return 0')"
     service_wrong silent 'clients that it ends at once' 'ended early\|while silent clients' "$(option 'struct timeval t = {0, 1000}; if (name == SO_RCVTIMEO) value = &t')"
     service_wrong unread 'a write that waits forever' 'timed out' "$(option 'if (name == SO_SNDTIMEO) return 0')"
