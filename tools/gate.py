@@ -267,7 +267,8 @@ def report(runs: list[Run], clock: float) -> int:
         with open(CRATE_TIMES, encoding="ascii") as it:
             print(it.read(), end="")
     left_out = left_out_of(runs)
-    say(f"left out for lack of a package or a right:\n{left_out}" if left_out else "nothing was left out")
+    say("left out for lack of a package or a right:" if left_out else "nothing was left out")
+    print(left_out, end="")
     failed = [it for it in runs if it.why]
     for run in failed:
         say(f"FAILED: {run.title}: {run.why}")
