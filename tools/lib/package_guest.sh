@@ -97,6 +97,9 @@ try_reload() {
     note "$1 process" "$(if [ "$(process line)" = "$number" ]; then echo same; else echo other; fi) $(systemctl is-active click@line)"
 }
 
+# limit: prints the variable of the C library that the router has.
+limit() { tr '\0' '\n' < "/proc/$(process line)/environ" | grep MALLOC_; }
+
 # try_end: kills the router, which has to come back.
 try_end() {
     local number
@@ -109,9 +112,11 @@ try_end() {
     done
     note back "$(if [ "$(process line)" = "$number" ]; then echo same; else echo other; fi) $(systemctl is-active click@line) $(ask 'READ list')"
     note restarts "$(systemctl show -p NRestarts click@line)"
-    note limit "$(tr '\0' '\n' < "/proc/$(process line)/environ" | grep MALLOC_)"
+    note limit "$(limit)"
+    echo MALLOC_MMAP_THRESHOLD_=1048576 >> /etc/click/line.conf
     { printf '// '; head -c 200000 /dev/zero | tr '\0' x; printf '\nIdle -> long :: Counter -> Discard;\n'; } > /etc/click/line.click
     note long "$(status_of systemctl restart click@line) $(ask 'READ list')"
+    note own_limit "$(limit)"
 }
 
 # try_wrong: starts routers that cannot run.
