@@ -424,7 +424,7 @@ def all_slots(tree: Tree) -> None:
         did = clickd(tree, "wait", f"{tree.folder}/etc/a.click", "-p", str(port), MAINPID=str(process.pid))
         same((0, "clickd: clients keep all session slots of the router\n"), (did.status, did.err), "waiting for a router without a free slot")
         reloading = subprocess.Popen([f"{tree.dest}/{PREFIX}/libexec/click/clickd", "reload", tree.write("../etc/a.click", NEW), "-p", str(port)], stdout=subprocess.DEVNULL)
-        time.sleep(1)
+        time.sleep(3)
         same(None, reloading.poll(), "the end of a reload without a free slot")
         sessions.close()
         same(0, reloading.wait(SECONDS), "a reload after a slot is free")
@@ -543,7 +543,7 @@ WRONGS = {
     "half-installed": Edit("nothing is half installed", "install.sh", "    make_all\n", "    make_all || true\n"),
     "waits-too-long": Edit("no router", "service/clickd.sh", "if has_ended; then stop 4 'the router has ended'; fi\n        if [ $status", "if [ $status"),
     "needs-a-slot": Edit("a router without a free session", "service/clickd.sh", "if [ $status = 2 ] &&", "if false &&"),
-    "hurried-reload": Edit("a router without a free session", "service/clickd.sh", "reply_seconds=60", "reply_seconds=0.5"),
+    "hurried-reload": Edit("a router without a free session", "service/clickd.sh", "reply_seconds=60", "reply_seconds=0.1"),
     "no-empty-start": Edit("texts that cannot be an argument", "service/clickd.sh", 'if [ -z "$is_argument" ]; then reload "$file" "$@"; fi', ":"),
     "short-arguments": Edit("texts that cannot be an argument", "service/clickd.sh", "max_argument_bytes=131071", "max_argument_bytes=100000"),
     "long-arguments": Edit("texts that cannot be an argument", "service/clickd.sh", "max_argument_bytes=131071", "max_argument_bytes=1048576"),
