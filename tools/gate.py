@@ -106,12 +106,13 @@ SCRIPTS = (
 )
 
 PROOFS = Part("proofs", "everything that is not kept is proved, with its tests, stored runs and must-fail mutants", "tools/lib/proofs.sh", minutes=600)
-MUTANTS = Part("mutants", "the prover refuses the mutants of the crates that changed, and a tenth of the others", "tools/mutants.py --changed", minutes=600)
+MUTANTS = Part("mutants", "the prover refuses the mutants of the crates that changed, and a tenth of the others", "tools/mutants.py --changed --record-to out/mutants.txt", minutes=600)
 
 # The parts that show that the scripts and tools can fail. They need proofs of some small crates, so
 # --quick runs them only by name. They run once.
 WRONGS = (
     Part("mutants_test", "the runner of the mutants reports those that are not refused, and faulty edits", "tools/mutants_test.sh"),
+    Part("mutants_wrongs", "the test of this runner fails over a wrong runner", "tools/mutants_test.sh --wrongs"),
     Part("run_sh_wrongs", "each test of run.sh fails over a wrong run.sh", "tools/run_sh_test.sh --wrongs"),
     Part("page_wrongs", "the checks of the page without a browser fail over a wrong router", "tools/page.py --wrongs sockets figures connections prometheus"),
     Part("clickctl_wrongs", "the checks of clickctl fail over wrong clients", "tools/clickctl.py --wrongs", (PROG,)),

@@ -11,8 +11,10 @@ crates/NAME/wrong-bodies/*.edit and crates/NAME/by-hand/*.edit.
     tools/mutants.py --check-names        checks the names of all mutants, also of those in
                                           must-fail/; tries nothing
 
-    --record    writes the checksum of each crate whose mutants were all tried and refused into
-                tools/mutants.txt
+    --record            writes the checksum of each crate whose mutants were all tried and refused
+                        into tools/mutants.txt, and keeps the lines of crates that were not tried
+    --record-to FILE    writes this record into FILE and leaves tools/mutants.txt alone. The gate
+                        writes out/mutants.txt, which can be committed as tools/mutants.txt.
 
 tools/mutants.txt has a line for each crate: its name, and the checksum of the sources for which all
 of its mutants were refused. The checksum covers the logic of the toolchain, the crate's line of
@@ -20,10 +22,13 @@ crates.txt, and its src/, specs/, proofs/ and mutants. A crate with another chec
 crate without a line is unrecorded: its mutants were never all tried in one run. The gate counts it
 among the others and names it, and a release needs a line for each crate.
 
-The tenth of the others consists of whole crates, in the order of the checksums of their names and
-sums. It is not a tenth of each crate, because a check loads the libraries below it once for all
-mutants of a round. A crate with more mutants than a tenth is not among them, because the project's
-CI has no time for them. They are tried by --all, or after a change of a recorded crate. The mutants in must-fail/ are not tried here: `rt ci` tries them.
+The tenth of the others consists of whole crates: first those that are unrecorded, then the
+recorded ones, each in the order of the checksums of their names and sums. So the record fills as
+the records of gates are committed. It is not a tenth of each crate, because a check loads the
+libraries below it once for all mutants of a round. A crate that does not fit into what is left of
+the tenth is left out, because the project's CI has no time for it. A crate with more mutants than
+the whole tenth never fits. It is tried by --all, or after a change of its recorded sources. The
+mutants in must-fail/ are not tried here: `rt ci` tries them.
 
 An edit has a line 'file: src/lib.rt' and pairs of lines 'old: TEXT' and 'new: TEXT'. Each TEXT is
 one line, and the old one occurs exactly once in the file. An edit that changes more than bodies,
@@ -548,12 +553,12 @@ def recorded():
     return dict(lines)
 
 
-def write_record(sums):
-    """Writes these checksums as the record."""
-    with open(f"{RECORD}.new", "w", encoding="utf-8") as it:
+def write_record(file, sums):
+    """Writes these checksums as a record."""
+    with open(f"{file}.new", "w", encoding="utf-8") as it:
         it.write("# The sum of each crate's sources for which all of its mutants were refused; tools/mutants.py --record writes this file.\n")
         it.writelines(f"{crate} {sum}\n" for crate, sum in sorted(sums.items()))
-    os.replace(f"{RECORD}.new", RECORD)
+    os.replace(f"{file}.new", file)
 
 
 def chosen(sums, known):
@@ -561,12 +566,13 @@ def chosen(sums, known):
 
     The first has the crates that changed since they were recorded. The second has some of the
     others, with about a tenth of their mutants: each crate, in their order, whose mutants fit into
-    what is left of the tenth, or else the first crate. The place of a crate in the order depends on
-    its own checksum only, so that the name of a mutant elsewhere cannot choose which are tried.
+    what is left of the tenth, or else the first crate. Unrecorded crates come before the recorded
+    ones. Apart from that, the place of a crate in the order depends on its own checksum only, so
+    that the name of a mutant elsewhere cannot choose which are tried.
     """
     changed = [it for it in sums if it in known and known[it] != sums[it]]
     others = [it for it in sums if it not in changed]
-    others.sort(key=lambda it: hashlib.sha256(f"{it} {sums[it]}".encode()).hexdigest())
+    others.sort(key=lambda it: (it in known, hashlib.sha256(f"{it} {sums[it]}".encode()).hexdigest()))
     left, tenth = -(-sum(len(mutants_of(it)) for it in others) // SHARE), []
     for it in others:
         if len(mutants_of(it)) <= left:
@@ -590,7 +596,9 @@ def arguments():
     which.add_argument("--changed", action="store_true", help="those of the crates that changed, and a tenth of the others")
     which.add_argument("--list", action="store_true", help="print the crates and try nothing")
     which.add_argument("--check-names", action="store_true", help="check the names of all mutants and try nothing")
-    reader.add_argument("--record", action="store_true", help="record the crates whose mutants were all refused")
+    record = reader.add_mutually_exclusive_group()
+    record.add_argument("--record", dest="record_to", action="store_const", const=RECORD, help="record the crates whose mutants were all refused")
+    record.add_argument("--record-to", metavar="FILE", help="write the new record into this file")
     reader.add_argument("names", nargs="*", metavar="NAME", help="a crate, with --all")
     asked, crates = reader.parse_args(), crates_of()
     for name in asked.names:
@@ -598,6 +606,8 @@ def arguments():
             reader.error(f"there is no crate {name}")
     if asked.names and not asked.all:
         reader.error("names of crates can only be used with --all")
+    if asked.record_to and not os.path.isdir(os.path.dirname(asked.record_to) or "."):
+        reader.error(f"there is no folder for {asked.record_to}")
     return asked, crates
 
 
@@ -635,11 +645,12 @@ def main():
     names = sorted(named(asked, sums, known), key=lambda it: -len(mutants_of(it)))
     with ThreadPoolExecutor(lanes()) as pool:
         counts = dict(zip(names, pool.map(lambda it: try_crate(crates, it, mutants_of(it)), names)))
-    if asked.record:
+    if asked.record_to:
         # A crate that changed during the run is not recorded.
         after = sums_of(crates)
         kept = {it: sum for it, sum in known.items() if it in sums and it not in counts}
-        write_record(kept | {it: sums[it] for it, (_, failed) in counts.items() if not failed and after[it] == sums[it]})
+        write_record(asked.record_to, kept | {it: sums[it] for it, (_, failed) in counts.items() if not failed and after[it] == sums[it]})
+        print(f"mutants.py: the new record is in {asked.record_to}", flush=True)
     passed, failed = map(sum, zip((0, 0), *counts.values()))
     if not passed + failed:
         print("mutants.py: there is no mutant to try", file=sys.stderr)

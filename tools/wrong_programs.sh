@@ -774,7 +774,8 @@ gate_says() {
 gate() {
     gate_tree
     gate_ends 0 'parts that pass'
-    gate_says "tools/client.sh  over $work/gate/crates/click_prog/out/quick/click_prog" 'tools/client.sh  over the proved program' 'client  *proved .* passed'
+    gate_says "tools/client.sh  over $work/gate/crates/click_prog/out/quick/click_prog" 'tools/client.sh  over the proved program' 'client  *proved .* passed' \
+        'tools/mutants.py --changed --record-to out/mutants.txt over the proved program'
     gate_says 'test.sh: nothing was left out'
     LEAVES='tools/links.py tools/client.sh' gate_ends 0 'parts that leave a check out'
     same "test.sh: left out for lack of a package or a right:
