@@ -125,10 +125,14 @@ WRONGS = (
     Part("wrong_pages", "the scripts refuse wrong pages and examples", "tools/wrong_programs.sh pages", (PROG, PLAYER), ("7777",)),
     Part("wrong_values", "the player reports a wrong value in each test script", "tools/wrong_programs.sh scripts", (PLAYER,)),
     Part("wrong_gate", "the runner of the gate fails if a part fails or is not run", "tools/wrong_programs.sh gate"),
+    Part("wrong_planted", "a planted mistake that its script does not catch is reported", "tools/wrong_programs.sh planted"),
 )
 
 # The parts that run only if they are named.
-EXTRA = (Part("tries", "README's commands that try unproved programs work (two builds)", "tools/examples.py tries"),)
+EXTRA = (
+    Part("tries", "README's commands that try unproved programs work (two builds)", "tools/examples.py tries"),
+    Part("planted", "a mistake in each of ten layers is caught by the script that should catch it (twelve builds)", "tools/planted.py", minutes=120),
+)
 
 ALL = (*TEXTS, *SCRIPTS, PROOFS, MUTANTS, *WRONGS, *EXTRA)
 

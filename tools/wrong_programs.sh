@@ -4,7 +4,7 @@
 #
 #     tools/wrong_programs.sh [SECTION..]    checks these sections, or all
 #
-# The sections are programs, network, scripts, pages and gate.
+# The sections are programs, network, scripts, pages, gate and planted.
 #
 # A wrong program runs the real one and changes its output or status. A wrapper that changes nothing
 # has to pass, which shows that it is the change that is refused. The programs must have been built.
@@ -811,10 +811,72 @@ gate_quick() {
     gate_says 'client  *unproved .* not run: click_prog not built'
 }
 
+# planted_tree: makes a tree with tools/planted.py, the sources of click_text and one mutant, and
+# stand-ins for the build and for the test scripts. A program prints the checksum of its sources.
+# The scripts fail over a program of other sources than the tree's. CATCHES changes that: they pass
+# (`nothing`), always fail (`all`) or give another message (`other`). With BUILDS=nothing no program
+# is built, and with BUILDS=unchanged only that of the tree.
+planted_tree() {
+    local file tree=$work/planted text=crates/click_text
+    mkdir -p "$tree/tools/lib" "$tree/$text/by-hand"
+    cp tools/planted.py tools/mutants.py "$tree/tools"
+    cp tools/lib/programs.py "$tree/tools/lib"
+    cp crates.txt HANDLES "$tree"
+    cp -r "$text/src" "$tree/$text"
+    cp "$text/by-hand/escaped__reads_a_tab_as_a_line_feed.edit" "$tree/$text/by-hand"
+    cat > "$tree/tools/quick_build.py" << END
+#!/bin/sh
+top=\$(dirname "\$(dirname "\$(readlink -f "\$0")")")
+case \$BUILDS:\$top in nothing:* | unchanged:*/planted-*) echo 'no build' >&2; exit 1 ;; esac
+at=\$top/crates/\$1/out/quick
+mkdir -p "\$at"
+printf '#!/bin/sh\necho %s\n' "\$(cat "\$top/$text/src"/*.rt | cksum | tr ' ' -)" > "\$at/\$1"
+chmod +x "\$at/\$1"
+END
+    cat > "$tree/tools/test_scripts.sh" << END
+#!/bin/sh
+is=same
+if [ "\$("\$PLAYER")" != "\$(cat $text/src/*.rt | cksum | tr ' ' -)" ]; then is=other; fi
+case \$CATCHES:\$is in nothing:* | it:same | other:same) exit ;; esac
+if [ "\$CATCHES" = other ]; then echo 'tests/arguments.script:48: another sentence'; exit 1; fi
+printf '%s\n' "\$1:48: A quoted argument is unquoted to its bytes: escapes." '  expected: \0d\09q"\5cn' '  actual:   \0d\0aq"\5cn'
+exit 1
+END
+    for file in "$tree"/tools/*.*; do chmod +x "$file"; done
+}
+
+# planted_says STATUS LINE: checks that tools/planted.py ends with this status, and that a line of
+# its output contains this one.
+planted_says() {
+    ran "$work/planted/tools/planted.py" click_text
+    cat "$work/err" >> "$work/out"
+    same_status "$1" "$status" "tools/planted.py, which must say: $2"
+    if ! grep -q -F -e "$2" "$work/out"; then fail "tools/planted.py does not say: $2" "$(shown "$work/out")"; fi
+    refused=$((refused + 1))
+}
+
+# planted: checks that tools/planted.py fails if a mistake cannot be made or built. It also fails if
+# the script passes, has another message, or fails over the unchanged program.
+planted() {
+    local source=$work/planted/crates/click_text/src/argument_bytes.rt
+    planted_tree
+    export CATCHES=it BUILDS=all
+    planted_says 0 'click_text: escaped__reads_a_tab_as_a_line_feed: caught by tools/test_scripts.sh tests/arguments.script:'
+    planted_says 0 '1 passed, 0 failed'
+    CATCHES=nothing planted_says 1 'NOT CAUGHT: tools/test_scripts.sh tests/arguments.script passes'
+    CATCHES=all planted_says 1 'NOT CAUGHT: tools/test_scripts.sh tests/arguments.script fails over the unchanged click_player'
+    CATCHES=other planted_says 1 'NOT CAUGHT: tools/test_scripts.sh tests/arguments.script does not name it'
+    BUILDS=nothing planted_says 1 'NOT CAUGHT: the program is not built: no build'
+    BUILDS=unchanged planted_says 1 'NOT CAUGHT: the program is not built: no build'
+    sed -i "s/b't' => /b't' | b't' => /" "$source"
+    planted_says 1 'stands 0 times'
+    planted_says 1 '0 passed, 1 failed'
+}
+
 # shellcheck disable=SC2048
-for section in ${*:-programs network scripts pages gate}; do
+for section in ${*:-programs network scripts pages gate planted}; do
     # shellcheck disable=SC2194
-    case " programs network scripts pages gate " in
+    case " programs network scripts pages gate planted " in
     *" $section "*) ;;
     *) fail "there is no section $section" ;;
     esac
