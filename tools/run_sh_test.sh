@@ -264,13 +264,18 @@ case_no_rt() {
     stops 'the command rt of the toolchain is not on the PATH' 'no rt, with --quick' --quick -e ''
 }
 
-# The stand-in of rt is silent for 9 seconds. With SAY_EVERY_SECONDS=2 no two lines are more than 4
-# seconds apart.
+# The first line comes within 10 seconds. The stand-in of rt is silent for 9 seconds. With
+# SAY_EVERY_SECONDS=2 no two lines are more than 4 seconds apart.
 case_signs() {
+    local begun
     echo 9 > "$work/middle.lasts"
+    begun=$(date +%s%N)
     (SAY_EVERY_SECONDS=2 "$script" -e '' < /dev/null 2>&1 > /dev/null || true) |
         while IFS= read -r line; do echo "$(date +%s%N) $line"; done > "$work/timed"
     cut -d ' ' -f 2- "$work/timed" > "$work/err"
+    if ! awk -v begun="$begun" 'NR == 1 && $1 - begun <= 10e9 { came = 1 } END { exit !came }' "$work/timed"; then
+        fail "signs of life: wanted the first line within 10 s of $begun, came:" "$(cat "$work/timed")"
+    fi
     says '^run.sh: 1 of 3 crates proved; at work: middle ([0-9]* s); [0-9]* s so far$' 'signs of life'
     if ! awk '{ now = $1 / 1e9; if (NR > 1 && now - last > 4) exit 1; last = now }' "$work/timed"; then
         fail 'signs of life: wanted a line at least every 4 s, came:' "$(cat "$work/timed")"
@@ -361,6 +366,7 @@ wrongs() {
         's/for crate in \$(crates_below click_prog)/for crate in $(ls "$top\/crates")/' 's/head\[1\] in wanted/1/' 's/^    ended$/    :/' '/write_stamp/d' 's/heard "\$half\$line"/heard "$line"/' 's/functions=\${1#\*functions=}/functions=0/'
     wrong fails tools/lib/prove.sh '/while the program was built/d' 's/\[ "\$status" != 0 \] || //' 's/ || ! \[ -x "\$room.*; then/; then/' 's/shown "\$log" |.*/:/' \
         's/if \[ -z "\$failed_crates" \]; then/if true; then/' '/said "\$crate NOT PROVED/d'
+    wrong signs run.sh 's/^sources=/sleep 11; &/' 's/^sources=/exec 2> \/dev\/null; &/'
     wrong signs tools/lib/prove.sh 's/said "\$(progress)"/:/' 's/:-25}/:-60}/' 's/at_work=\$(find .*/at_work=/'
     wrong interrupt tools/lib/prove.sh 's/trap "interrupted \$signal" "\$signal"/:/' 's/kill -s "\$1" \$\$/exit 1/' 's/kill "\$rt"/true/' 's/rm -rf "\$room"/:/' 's/before="\$before \$crate"/before=/' \
         "s/printf '.r%s/printf '%s/"
