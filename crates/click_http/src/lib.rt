@@ -2,6 +2,7 @@
 #![tactic(auto)]
 
 mod accept_state;
+mod chunk_watch;
 mod http_listener;
 mod peer;
 mod phase;

@@ -6,6 +6,7 @@ ghost use Rattle.http_server.specs.History.{WantsRead};
 ghost use Rattle.click_http.specs.Leading.{page_config, Leads};
 ghost use Rattle.click_http.specs.Phases.{begins, IsInTime, HasOutput, HasNoOutput, HasAnswer, Suits};
 
+use crate::chunk_watch::ChunkWatch;
 use crate::phase::Phase;
 use crate::settings::page_limits;
 use crate::step::Step;
@@ -24,12 +25,20 @@ const MAX_STEPS: u32 = 6;
 /// The number of bytes that are read and dropped at once.
 const SCRATCH_BYTES: usize = 4096;
 
+/// The maximum number of bytes that are looked at before a read.
+const SEEN_BYTES: usize = 16_384;
+
 /// The interim response that asks a peer to send the rest of its request.
 const CONTINUE: &[u8] = b"HTTP/1.1 100 Continue\r\n\r\n";
 
 /// The response to a peer whose request took too long.
 const OVERDUE: &[u8] =
     b"HTTP/1.1 408 Request Timeout\r\ncontent-length: 0\r\nconnection: close\r\n\r\n";
+
+/// The response to a peer whose chunk announces too many bytes. It is that of the server to a body
+/// that is too long.
+const TOO_LARGE: &[u8] =
+    b"HTTP/1.1 413 Payload Too Large\r\nconnection: close\r\ncontent-length: 0\r\n\r\n";
 
 /// The response to a peer that found no free slot.
 const FULL: &[u8] =
@@ -41,6 +50,11 @@ fn has_answer(connection: &Connection) -> bool
     ensures none { IsTrue result → HasOutput connection.now }
 {
     connection.wants_write() && connection.output() != CONTINUE
+}
+
+/// Copies the next bytes that a read would give, and returns their number. It is 0 if none are there.
+fn look(stream: &TcpStream, seen: &mut [u8]) -> usize {
+    stream.peek(seen).unwrap_or(0)
 }
 
 /// Records that the service was called, if there was a request to answer.
@@ -70,6 +84,8 @@ pub(crate) struct Peer {
     writable: bool,
     /// Whether the peer has ended its output.
     ended: bool,
+    /// The chunks of the request that is read.
+    watch: ChunkWatch,
     ghost limits: { config_of connection ≡ page_config },
     ghost suits: { Suits timer.phase connection },
     ghost input: { ended ≡ (history connection).ended },
@@ -89,6 +105,7 @@ impl Peer {
             readable: true,
             writable: true,
             ended: false,
+            watch: ChunkWatch::new(),
         }
     }
 
@@ -165,8 +182,13 @@ impl Peer {
         ensures more { result ≡ Step.More → IsGoingOn self.old self.new }
         ensures other { self.new.writable ≡ self.old.writable }
     {
+        let mut seen = [0u8; SEEN_BYTES];
+        let seen_count = look(&self.stream, &mut seen);
         match self.connection.read_from(&mut self.stream) {
             Ok(count) => {
+                let begins = self.timer.phase.is_idle();
+                self.watch
+                    .note(begins, &seen[..seen_count.min(SEEN_BYTES)], count);
                 if count == 0 {
                     self.ended = true;
                 } else {
@@ -199,6 +221,21 @@ impl Peer {
         } else {
             self.timer = Timer::begin(Phase::HalfClosed, now);
             Step::More
+        }
+    }
+
+    /// Sends status 413 and ends the output.
+    fn refuse_body(&mut self, now: Instant) -> Step
+        requires phase { self.old.timer.phase ≢ Phase.HalfClosed }
+        requires output { HasNoOutput self.old.connection }
+        ensures wait { result ≢ Step.Wait }
+        ensures over { result ≡ Step.Over → self.new ≡ self.old }
+        ensures more { result ≡ Step.More → IsHalfClosed self.old self.new now }
+    {
+        if self.stream.write(TOO_LARGE).is_ok() {
+            self.shut_output(now)
+        } else {
+            Step::Over
         }
     }
 
@@ -235,6 +272,8 @@ impl Peer {
             self.drain()
         } else if self.connection.wants_write() {
             self.write(service, now)
+        } else if self.connection.wants_read() && self.watch.is_too_long() {
+            self.refuse_body(now)
         } else if self.connection.wants_read() {
             self.read(service, now)
         } else {

@@ -11,6 +11,9 @@ use std::time::Duration;
 /// The maximum number of connections at the same time. A further one is refused with status 503.
 pub const MAX_CONNECTIONS: usize = 32;
 
+/// The maximum number of bytes of a request's body.
+pub(crate) const MAX_BODY_BYTES: u64 = 1_048_576;
+
 /// Returns the maximum duration of a sleep, after which the server checks `stop` and the time
 /// limits.
 pub(crate) fn tick() -> Duration
