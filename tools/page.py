@@ -547,6 +547,35 @@ def limits_chunks(client):
         same(status, client.send(chunked(client, "/write?handler=x.y", *chunks, fields=[LAST], end=end)).status, f"a body of {what}")
 
 
+def refuses_announced_chunks(client):
+    """Checks that a chunk that announces more than 1 MiB is refused before its data comes."""
+    target, first = "/write?handler=x.y", chunked(client, "/write?handler=x.y", b"x", end=b"")
+    get = f"GET /read?handler=version HTTP/1.1\r\nhost: 127.0.0.1:{client.router.page}\r\n\r\n".encode()
+    for what, pieces in {
+        "1 MiB and a byte": [chunked(client, target, end=b"100001\r\n")],
+        "2 MiB with zeros and an extension": [chunked(client, target, end=b"000200000;name=value\r\n")],
+        "4 GiB": [chunked(client, target, end=b"FFFFFFFF\r\n")],
+        "2 MiB after another chunk": [first + b"200000\r\n"],
+        "2 MiB in pieces": [first[:40], first[40:] + b"2000", b"00", b"\r", b"\n"],
+        "2 MiB after an answer": [get, chunked(client, target, end=b"200000\r\n")],
+        "2 MiB by a head in other letters": [first.replace(b"transfer-encoding: chunked", b"Transfer-ENCODING:  Chunked ") + b"200000\r\n"],
+    }.items():
+        with client.connect() as peer:
+            for piece in pieces:
+                peer.sendall(piece)
+                time.sleep(0.2)
+            came = received(peer, SECONDS)
+        same(413, Answer(came[came.rindex(b"HTTP/1.1 ") :]).status, f"a chunk that announces {what}")
+    with client.connect() as peer:
+        peer.sendall(chunked(client, target, end=b"100000\r\n"))
+        peer.settimeout(0.5)
+        with contextlib.suppress(TimeoutError):
+            raise Wrong(f"a chunk that announces 1 MiB: came {peer.recv(100)!r}")
+    # These only look like the size of a chunk.
+    for what, chunks in {"the data of a chunk": [b"1\r\n200000\r\n200000\r\n"], "a second chunk": [b"\r\n", b"200000\r\n"]}.items():
+        same(510, client.send(chunked(client, target, *chunks, fields=[LAST])).json()["fault"], f"the size of a long chunk in {what}")
+
+
 def ends_slow_heads(client):
     """Checks a head that is sent byte by byte, without a long pause."""
     patience = PATIENCE_OF_MOCK if client.router.is_mock else PATIENCE
@@ -635,6 +664,7 @@ SOCKETS = {
     "a body may come in chunks": takes_chunks,
     "a malformed chunk is refused": refuses_chunks,
     "a long body in chunks is refused": limits_chunks,
+    "a chunk that announces too many bytes is refused at once": refuses_announced_chunks,
     "a slow head is ended": ends_slow_heads,
     "a 33rd connection is refused": limits_connections,
     "the connection that waited longest makes room": closes_idle,
@@ -1439,6 +1469,8 @@ SEEN_BY = {
     "decimal-chunks": "a body may come in chunks",
     "takes-chunks": "a malformed chunk is refused",
     "long-chunks": "a long body in chunks is refused",
+    "late-chunks": "a chunk that announces too many bytes is refused at once",
+    "early-chunks": "a chunk that announces too many bytes is refused at once",
     "waits-for-readers": "a peer that never reads is cut off",
     "cuts-off-early": "a peer that never reads is cut off",
     "cuts-off-slow-readers": "a peer that never reads is cut off",

@@ -71,8 +71,8 @@ many-connections stuck-sessions other-element less-connections other-flat still-
 no-denial any-query empty-handler utf-8-names no-absolute-form capital-hosts no-allow no-head no-types less-metrics other-metrics all-gauges
 bad-sample still-metrics untyped no-room other-room no-figures figures-twice zero-sessions endless-sessions zero-links exchanged-links raw-labels
 memory-in-pages kept-flat kept-picture other-picture fault-redraws makes-flat-again makes-picture-again other-reasons garbage-ends-all
-late-refusal lost-answer parting-words no-chunks decimal-chunks takes-chunks long-chunks waits-for-readers cuts-off-early
-cuts-off-slow-readers""".split()
+late-refusal lost-answer parting-words no-chunks decimal-chunks takes-chunks long-chunks late-chunks early-chunks
+waits-for-readers cuts-off-early cuts-off-slow-readers""".split()
 # Edits of the page: texts that occur once, each followed by its replacement.
 DRAWS_ALL = "isWhole = isAll || parts.length <= PARTS.whole", "isWhole = true"
 READS_ALL = "if (watches.reduce((sum, it) => sum + it.handlers.length, 2) <= MOST_HANDLERS) return watches;", "return watches;"
@@ -513,7 +513,8 @@ class Page:
 
     def body(self, peer, fields, length, rest):
         """Returns the body of a request, and the bytes after it."""
-        if ("transfer-encoding", "chunked") in fields and self.wrong != "no-chunks":
+        coding = next((value.lower() for name, value in fields if name == "transfer-encoding"), None)
+        if coding == "chunked" and self.wrong != "no-chunks":
             return self.joined_chunks(peer, rest)
         while len(rest) < length:
             rest += self.more(peer)
@@ -525,6 +526,8 @@ class Page:
         while True:
             line, rest = self.line(peer, rest)
             size = self.size_of(line)
+            if self.announces_too_much(size):
+                raise Refused(413)
             if size == 0:
                 while line:
                     line, rest = self.line(peer, rest)
@@ -546,6 +549,11 @@ class Page:
         if self.wrong == "takes-chunks":
             return 1
         raise Refused(400)
+
+    def announces_too_much(self, size):
+        """Returns whether a chunk is refused for its length alone."""
+        most = {"late-chunks": math.inf, "long-chunks": math.inf, "early-chunks": MOST_BODY - 1}
+        return size > most.get(self.wrong, MOST_BODY)
 
     def check_length(self, length):
         if length > MOST_BODY and self.wrong != "long-chunks":
