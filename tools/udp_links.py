@@ -4,8 +4,8 @@ each comes out exactly once and in order, or is counted as dropped. Other cases 
 all lengths and from other senders, links at 127.0.0.2, an endless source and a missing peer. There
 are also isolated packets, which are carried at once, a swap that removes a device, a flood, and an
 idle router. Runs end with full feeds, with packets that come last and while packets come without a
-pause, and go on without memory for packets. The counts are printed every second, even if no process
-reads them.
+pause, and go on without memory for packets. A receiver ends if its socket fails. The counts are
+printed every second, even if no process reads them.
 
     tools/udp_links.py [CASE..]
 
@@ -13,8 +13,8 @@ The program must have been built. PROGRAM names another program to check, and PA
 of packets than 200,000. Each case starts the program on free ports of 127.0.0.1 and ends within
 some 12 seconds. A failure is printed, and ends the script with status 1.
 
-Two cases preload a library into the program, which the C compiler cc makes. The case `blocked` runs
-in a network namespace of its own, and is left out if none with veth is available.
+Three cases preload a library into the program, which the C compiler cc makes. The case `blocked`
+runs in a network namespace of its own, and is left out if none with veth is available.
 
 The program is not to blame for datagrams that the kernel drops when a socket's buffer is full. The
 kernel counts them for each socket, and the checks add this count.
@@ -749,9 +749,10 @@ def ending():
         raise Wrong(f"the feed was not full {what}")
 
 
-# A library that affects the allocations of the room for a packet, of LONGEST bytes, in a program
-# whose name begins with click_. Its state is the byte in the file that the variable ROOMS names: `s`
-# for slow, `r` for refused, or another one.
+# A library that affects the allocations of the room for a packet, of LONGEST bytes, and the reads of
+# sockets, in a program whose name begins with click_. Its state is the byte in the file that the
+# variable ROOMS names: `s` for slow and `r` for refused allocations, `f` for reads that fail, or
+# another one.
 ROOMS = r"""
 #define _GNU_SOURCE
 #include <dlfcn.h>
@@ -760,6 +761,8 @@ ROOMS = r"""
 #include <stdlib.h>
 #include <string.h>
 #include <sys/mman.h>
+#include <sys/socket.h>
+#include <sys/syscall.h>
 #include <unistd.h>
 static volatile char *state;
 __attribute__((constructor)) static void begin(void)
@@ -773,6 +776,11 @@ void *malloc(size_t size)
     if (size == 1600 && state && *state == 'r') return 0;
     if (size == 1600 && state && *state == 's') usleep(50000);
     return real(size);
+}
+ssize_t recvfrom(int fd, void *bytes, size_t size, int flags, struct sockaddr *from, socklen_t *length)
+{
+    if (state && *state == 'f') return errno = EIO, -1;
+    return syscall(SYS_recvfrom, fd, bytes, size, flags, from, length);
 }
 """
 
@@ -867,6 +875,27 @@ def memory():
     same(PLACES, came + lost_there, "the packets that waited at the end, and that came")
 
 
+def failing():
+    """Checks that a receiver whose socket fails for good ends, and nothing else does.
+
+    The processor time of the program shows that no receiver tries again and again. Datagrams that
+    come later are not counted, and packets still leave.
+    """
+    a, b = Link("a"), Link("b")
+    with Rooms() as rooms, Router(PLAIN, [a, b], env=rooms.env) as router:
+        is_carried(a, b, range(10))
+        rooms.set("f")
+        router.is_idle("while the sockets of all links fail")
+        rooms.set("n")
+        a.give(b"too late")
+        router.session.swap("InfiniteSource(ab, 5, 1) -> q :: Queue -> ToDevice(b);")
+        same([b"ab"] * 5, [b.take() for _ in range(5)], "the packets that leave by a link whose socket failed")
+        # A receiver that goes on looks at its socket at least ten times in this second.
+        time.sleep(1)
+        wanted = [entering(10), leaving(15)]
+        same(wanted, router.ends_now(b"QUIT\n"), "the counts of links whose sockets failed")
+
+
 # The commands that make a network namespace in which packets to 10.9.9.2 wait for a neighbour, and
 # so fill the send buffer of their socket.
 NAMESPACE = ("unshare", "--map-root-user", "--net", "sh", "-e", "-c")
@@ -881,8 +910,15 @@ echo 60 > /proc/sys/net/ipv4/neigh/v0/mcast_solicit
 """
 
 
+# Makes the neighbour known, so that the packets that wait for it leave.
+KNOWN = ("ip", "neigh", "replace", "10.9.9.2", "lladdr", "02:00:00:00:00:01", "dev", "v0", "nud", "permanent")
+
+
 def blocked():
-    """Checks that a link with a full send buffer does not delay another link."""
+    """Checks that a link with a full send buffer does not delay another link.
+
+    It sends again once its buffer has room.
+    """
     if subprocess.run([*NAMESPACE, NEIGHBOUR], capture_output=True).returncode:
         print("left out: the case blocked, because no network namespace with veth is available")
         return
@@ -893,18 +929,28 @@ def blocked():
 
 
 def blocked_inside():
-    """Checks that a link with a full send buffer does not delay another link, in a namespace."""
-    a, b = Link("a"), Link("b", there="10.9.9.2:9", host="10.9.9.1", is_open=False)
-    with Router("s :: InfiniteSource(ab, 400, 64) -> q :: Queue(1000) -> ToDevice(b); FromDevice(b) -> Discard; FromDevice(a) -> Queue -> ToDevice(a);", [a, b]) as router:
-        until(lambda: router.session.read(b"s.count") == b"400", "the source does not emit its packets")
+    """Does what `blocked` says, in a namespace."""
+    a, b, later = Link("a"), Link("b", there="10.9.9.2:9", host="10.9.9.1", is_open=False), 1000
+    others = "FromDevice(b) -> Discard; FromDevice(a) -> Queue -> ToDevice(a);"
+    with Router(f"s :: InfiniteSource(ab, 400, 64) -> q :: Queue(1000) -> ToDevice(b); {others}", [a, b]) as router:
+        read = router.session.read
+        until(lambda: read(b"s.count") == b"400", "the source does not emit its packets")
         began = time.monotonic()
         is_carried(a, a, range(20))
         seconds = time.monotonic() - began
+        until(lambda: read(b"q.length") == b"0", "packets wait at a link with a full send buffer")
+        subprocess.run(KNOWN, check=True)
+        router.session.swap(f"t :: InfiniteSource(cd, {later}, 64) -> p :: Queue({later}) -> ToDevice(b); {others}")
+        until(lambda: (read(b"t.count"), read(b"p.length")) == (b"%d" % later, b"0"), "packets wait at a link whose send buffer has room")
+        counts, out = router.ends()
     if seconds > LONGEST_WAIT:
         raise Wrong(f"next to a link with a full send buffer, 20 packets took {seconds:.1f} s")
+    same((entering(20, 20), 400 + later), (counts, out.sent + out.failed), "the counts next to a link with a full send buffer, and what that link sent and lost")
+    if out.failed == 0 or out.sent < later:
+        raise Wrong(f"a link whose send buffer was full and has room again: {out.sent} sent and {out.failed} failed, of 400 packets and {later} later ones")
 
 
-CASES = {case.__name__: case for case in (refused, isolated, sizes, addresses, endless, nobody, away, telling, unread, memory, late, busy, ending, blocked, flood, carrying)}
+CASES = {case.__name__: case for case in (refused, isolated, sizes, addresses, endless, nobody, away, telling, unread, memory, failing, late, busy, ending, blocked, flood, carrying)}
 # What the case `blocked` runs in its namespace.
 NAMED = {case.__name__: case for case in (blocked_inside,)}
 

@@ -505,10 +505,16 @@ network() {
     links_wrong telling 'no lines while it runs' "$(exchanged 1 3600)"
     links_wrong unread 'an end of all packets' '(sleep 2; kill -STOP $$) &' 'exec "$program" "$@"'
     links_wrong memory 'other causes of its drops' "$(retold 's/no room 7, no memory 4/no room 4, no memory 7/')"
+    links_wrong failing 'a link that goes on though its socket failed' 'exec env -u LD_PRELOAD "$program" "$@"'
     links_wrong late 'an end before the last packet enters' "$(retold 's/entered 1, sent 1/entered 0, sent 0/')"
     links_wrong ending 'an end while packets wait' "$(retold 's/entered [0-9]*, sent [0-9]*/entered 320, sent 320/')"
     links_wrong flood 'more in its counts than entered' "$(retold 's/entered /&1/')"
     links_wrong carrying 'a packet in a thousand that is lost' "$(relayed loses)"
+    if tools/udp_links.py blocked | grep -q '^left out'; then
+        echo 'left out: links with a full send buffer'
+    else
+        wrong_blocked
+    fi
     # The gateway between two networks, if this machine has what it needs.
     if [ "$(examples/gateway/run.sh | tail -n 1)" = passed ]; then
         wrong_gateways
@@ -516,6 +522,21 @@ network() {
         echo 'left out: the gateway'
     fi
     if [ "$(examples/ethernet/run.sh | tail -n 1)" = passed ]; then wrong_ethernets; else echo 'left out: the Ethernets'; fi
+}
+
+# wrong_blocked: sends that wait for a send buffer without a limit, and a link whose sends all fail
+# after the first one that found its send buffer full.
+wrong_blocked() {
+    links_wrong blocked 'a send that waits forever' "$(option 'if (name == SO_SNDTIMEO) return 0')"
+    named_wrong tools/udp_links.py blocked 'a link that stays blocked' 'has room again' "$(preloaded '#include <errno.h>
+static int full;
+ssize_t sendto(int fd, const void *bytes, size_t size, int flags, const struct sockaddr *to, socklen_t length)
+{
+    if (fd == full) return errno = EAGAIN, -1;
+    ssize_t sent = syscall(SYS_sendto, fd, bytes, size, flags, to, length);
+    if (sent < 0 && errno == EAGAIN) full = fd;
+    return sent;
+}')"
 }
 
 # wrong_ethernets: a change of the router's configuration, its packets or its counts for each kind of
