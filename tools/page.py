@@ -40,6 +40,7 @@ import os
 import re
 import select
 import shutil
+import signal
 import socket
 import subprocess
 import sys
@@ -196,10 +197,12 @@ class Answer:
     """An HTTP response: its status, its reason phrase, its header fields in order, and its body."""
 
     def __init__(self, came):
-        head, _, self.body = came.partition(b"\r\n\r\n")
+        head, ends, self.body = came.partition(b"\r\n\r\n")
         first, *lines = head.decode("latin-1").split("\r\n")
         if not re.match(r"HTTP/1\.1 \d{3}( |$)", first):
             raise Wrong(f"not an HTTP response: {came[:200]!r}")
+        if not ends:
+            raise Wrong(f"a head without its end: {came[:200]!r}")
         self.status, self.reason = int(first[9:12]), first[13:]
         self.fields = [(name.lower(), value.strip()) for name, _, value in (line.partition(":") for line in lines)]
 
@@ -629,6 +632,46 @@ def closes_idle(client):
     until(lambda: client.ask("/").status == 200, "the page is answered once the others have gone")
 
 
+def asks_for_version(client):
+    """Returns a check that a connection, which stays open, gets an answer."""
+    request = f"GET /read?handler=version HTTP/1.1\r\nhost: 127.0.0.1:{client.router.page}\r\n\r\n".encode()
+
+    def asks(peer, what):
+        peer.sendall(request)
+        try:
+            same([{"value": "1"}], answer_on(peer).json(), f"the answer on {what}")
+        except TimeoutError:
+            raise Wrong(f"no answer on {what}") from None
+
+    return asks
+
+
+def answers_all_at_once(client):
+    """Checks 30 connections that come while the router is stopped: all are answered, the last first."""
+    asks, process, count = asks_for_version(client), client.router.process, 30
+    with contextlib.ExitStack() as all_of_them:
+        process.send_signal(signal.SIGSTOP)
+        try:
+            peers = [all_of_them.enter_context(client.connect()) for _ in range(count)]
+        finally:
+            process.send_signal(signal.SIGCONT)
+        for at in reversed(range(count)):
+            asks(peers[at], f"connection {at + 1} of {count} that came at once")
+
+
+def answers_after_ends(client):
+    """Checks that a connection is answered after those that came before it have ended."""
+    asks = asks_for_version(client)
+    with contextlib.ExitStack() as all_of_them:
+        *others, last = (all_of_them.enter_context(client.connect()) for _ in range(3))
+        for at, peer in enumerate((*others, last)):
+            asks(peer, f"connection {at + 1} of three")
+        for at, peer in enumerate(others):
+            peer.shutdown(socket.SHUT_WR)
+            same(b"", received(peer), "what a connection gets when it ends")
+            asks(last, f"the last of three connections after {at + 1} of them ended")
+
+
 def answers_sessions(client):
     """Checks that a session is answered while the page has 32 connections with partial heads."""
     with contextlib.ExitStack() as all_of_them:
@@ -668,6 +711,8 @@ SOCKETS = {
     "a slow head is ended": ends_slow_heads,
     "a 33rd connection is refused": limits_connections,
     "the connection that waited longest makes room": closes_idle,
+    "connections that come at once are answered": answers_all_at_once,
+    "a connection is answered after others have ended": answers_after_ends,
     "a control session answers meanwhile": answers_sessions,
 }
 
@@ -1476,8 +1521,11 @@ SEEN_BY = {
     "cuts-off-slow-readers": "a peer that never reads is cut off",
     "many-connections": "a 33rd connection is refused",
     "late-refusal": "a 33rd connection is refused",
+    "no-end-of-heads": "a 33rd connection is refused",
     "no-room": "the connection that waited longest makes room",
     "other-room": "the connection that waited longest makes room",
+    "one-at-once": "connections that come at once are answered",
+    "end-ends-all": "a connection is answered after others have ended",
     "stuck-sessions": "a control session answers meanwhile",
     "other-flat": "/flat is the flat form",
     "other-element": "the drawing has each element and each connection",

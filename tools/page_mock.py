@@ -72,7 +72,7 @@ no-denial any-query empty-handler utf-8-names no-absolute-form capital-hosts no-
 bad-sample still-metrics untyped no-room other-room no-figures figures-twice zero-sessions endless-sessions zero-links exchanged-links raw-labels
 memory-in-pages kept-flat kept-picture other-picture fault-redraws makes-flat-again makes-picture-again other-reasons garbage-ends-all
 late-refusal lost-answer parting-words no-chunks decimal-chunks takes-chunks long-chunks late-chunks early-chunks
-waits-for-readers cuts-off-early cuts-off-slow-readers""".split()
+waits-for-readers cuts-off-early cuts-off-slow-readers one-at-once end-ends-all no-end-of-heads""".split()
 # Edits of the page: texts that occur once, each followed by its replacement.
 DRAWS_ALL = "isWhole = isAll || parts.length <= PARTS.whole", "isWhole = true"
 READS_ALL = "if (watches.reduce((sum, it) => sum + it.handlers.length, 2) <= MOST_HANDLERS) return watches;", "return watches;"
@@ -301,6 +301,8 @@ class Page:
         self.places, self.lock = MOST_CONNECTIONS, threading.Lock()
         # The connections that wait for a request, and since when.
         self.waiting = {}
+        # Connections that get no answer, if the mock is wrong about those that come at once.
+        self.left = []
         # When the first answer of a connection began.
         self.begun = {}
         # The configuration for which the flat form and the picture were made last, by their paths.
@@ -323,7 +325,9 @@ class Page:
             guards["access-control-allow-origin"] = "*"
         fields = {"content-type": kind, **guards, "content-length": len(body), **({"connection": "close"} if closes else {}), **dict(more)}
         reason = "Refused" if self.wrong == "other-reasons" and status >= 400 else REASONS[status]
-        return f"HTTP/1.1 {status} {reason}\r\n".encode() + b"".join(b"%s: %s\r\n" % (k.encode(), str(v).encode()) for k, v in fields.items()) + b"\r\n" + body
+        lines = [f"HTTP/1.1 {status} {reason}", *(f"{name}: {value}" for name, value in fields.items())]
+        ends = b"\r\n" if self.wrong == "no-end-of-heads" and closes else b"\r\n\r\n"
+        return "\r\n".join(lines).encode() + ends + body
 
     def refuse(self, status, line):
         return self.respond(status, "text/plain; charset=utf-8", line.encode() + b"\n")
@@ -460,8 +464,10 @@ class Page:
             self.places -= 1
             return True
 
-    def admit(self, peer):
+    def admit(self, listener, peer):
         """Takes a slot for a connection, or else ends it; returns whether it has a slot."""
+        while self.wrong == "one-at-once" and select.select([listener], [], [], 0)[0]:
+            self.left.append(listener.accept())
         try:
             is_in = self.take(peer)
         except OSError:
@@ -478,6 +484,8 @@ class Page:
             finally:
                 with self.lock:
                     self.places += 1
+                if self.wrong == "end-ends-all":
+                    self.end_waiting()
         except OSError:
             pass  # the peer has left, or was too slow
         finally:
@@ -582,11 +590,15 @@ class Page:
         """
         peer.sendall(self.respond(status, "text/plain; charset=utf-8", b"", True))
         if self.wrong == "garbage-ends-all":
-            for other in list(self.waiting):
-                other.shutdown(socket.SHUT_RDWR)
+            self.end_waiting()
         peer.shutdown(socket.SHUT_WR)
         while peer.recv(65536):
             pass
+
+    def end_waiting(self):
+        """Ends each connection that waits for a request."""
+        for other in list(self.waiting):
+            other.shutdown(socket.SHUT_RDWR)
 
     def end(self):
         """Waits until each connection waits for a request, because the process ends then."""
@@ -747,14 +759,14 @@ class Sessions:
         return f"200 Read handler '{handler}' OK\r\nDATA {len(answer.encode())}\r\n{answer}".encode()
 
 
-def listen(port, serve, admit=lambda _: True):
+def listen(port, serve, admit=lambda *_: True):
     """Serves each connection at a port of 127.0.0.1 in its own thread, if it is admitted."""
     listener = socket.create_server(("127.0.0.1", port), backlog=128)
 
     def accept():
         while True:
             peer, _ = listener.accept()
-            if admit(peer):
+            if admit(listener, peer):
                 threading.Thread(target=serve, args=(peer,), daemon=True).start()
 
     threading.Thread(target=accept, daemon=True).start()
