@@ -1269,6 +1269,43 @@ def counter_grows(browser):
     until(lambda: browser.text("#e4 .gauge").endswith("/64"), "left/q has its length and capacity in the drawing")
 
 
+def rates_of(browser, name):
+    """Returns what the page shows for a counter: the time, the count and the rate, each as a number.
+
+    It waits for the next read with a rate.
+    """
+    row = f"[...document.querySelectorAll('#panel tbody tr')].find((it) => it.cells[0].textContent === {name!r})"
+    shown = lambda: browser.value(f"[performance.now(), ...[...{row}.cells].slice(1).map((it) => it.textContent)]")
+    _, _, before = shown()
+    now, rate, count = until(lambda: (it := shown())[2] not in (before, "-") and it[1].endswith("/s") and it, f"the page reads {name} again")
+    number, unit = re.fullmatch(r"([\d.]+)([KMBT]?)/s", rate).groups()
+    return now / 1000, int(count.replace(",", "")), float(number) * 1000 ** " KMBT".index(unit or " ")
+
+
+def shows_rates(browser):
+    """Checks that a rate is what a count grew in a second, within a factor of 3."""
+    (began, before, _), (ended, after, rate) = (rates_of(browser, "c") for _ in range(2))
+    grown = (after - before) / (ended - began)
+    if not grown / 3 <= rate <= grown * 3:
+        raise Wrong(f"the rate of c is {rate}, and its count grew by {grown:.0f} in a second")
+
+
+def reddens_full_queues(browser, session):
+    """Checks that the bar of a queue is red exactly if the queue is full, as right/q soon is."""
+    same(b"200 Write handler 's.switch' OK\r\n", session.write("s.switch", "1"), "a write of s.switch")
+    gauges = "[...document.querySelectorAll('#drawing .gauge')].map((it) => [it.textContent.match(/(\\d+)\\/(\\d+)$/), it.querySelector('.full') !== null])"
+
+    def with_full():
+        found = [(numbers[1] == numbers[2], is_red) for numbers, is_red in browser.value(gauges) if numbers]
+        return any(is_full for is_full, _ in found) and found
+
+    try:
+        found = until(with_full, "a full queue is shown")
+    finally:
+        session.write("s.switch", "0")
+    same([], [it for it in found if it[0] != it[1]], "queues that are full and not red, or red and not full")
+
+
 def opens_by_keyboard(browser, at, name):
     browser.value(f"document.querySelector('#e{at}').focus()")
     browser.press("Enter", "\r")
@@ -1415,6 +1452,8 @@ def try_browser(tally, browser, router, session, command):
     for what, act, *words in [
         ("the drawing has each element and each connection", shows_drawing, session),
         ("a counter's number grows", counter_grows),
+        ("a rate is that of a second", shows_rates),
+        ("the bar of a full queue is red", reddens_full_queues, session),
         ("a panel opens and closes by the keyboard", opens_panel),
         ("names and texts are no markup", keeps_markup_out),
         ("a write by the page is seen by a session", writes, session),
@@ -1531,6 +1570,8 @@ SEEN_BY = {
     "other-element": "the drawing has each element and each connection",
     "less-connections": "the drawing has each element and each connection",
     "still-counter": "a counter's number grows",
+    "page-of-other-rates": "a rate is that of a second",
+    "page-without-red": "the bar of a full queue is red",
     "lost-write": "a write by the page is seen by a session",
     "other-place": "a fault of a swap is shown with its place and changes nothing",
     "no-place": "a fault of a swap is shown with its place and changes nothing",

@@ -97,6 +97,8 @@ PAGE_EDITS = {
     "page-that-works-on": (*DRAWS_ALL, *READS_ALL),
     "page-with-all-rows": ("isLong = count > ROWS.all", "isLong = false"),
     "page-without-neighbours": ("Math.abs(at - focused) <= 1", "at === focused"),
+    "page-of-other-rates": ("Number(value - watch.value) * SECOND", "Number(value - watch.value)"),
+    "page-without-red": ("Number(value) >= capacity);", "Number(value) > capacity);"),
     "page-with-a-dead-map": ("figure || !drawing.isMap", "figure || true"),
     "page-that-prints-less": ("showVisible(true, isAll);", "showVisible(true);"),
 }
@@ -211,7 +213,7 @@ class Router:
         """
         seconds = time.monotonic() - self.began
         if own == "length":
-            return int(self.capacity(element) * (0.5 + 0.5 * math.sin(seconds / 4 + at)))
+            return int(self.capacity(element) * min(1, max(0, 0.5 + 0.6 * math.sin(seconds / 4 + at))))
         grown = 0 if self.wrong == "still-counter" else int(1000 * (at + 1) * (seconds + 3 * math.sin(seconds / 3 + at) + 3))
         return (grown - self.begins.get(element["name"], 0)) * (64 if own == "byte_count" else 1)
 
