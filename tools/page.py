@@ -646,19 +646,6 @@ def asks_for_version(client):
     return asks
 
 
-def answers_all_at_once(client):
-    """Checks 30 connections that come while the router is stopped: all are answered, the last first."""
-    asks, process, count = asks_for_version(client), client.router.process, 30
-    with contextlib.ExitStack() as all_of_them:
-        process.send_signal(signal.SIGSTOP)
-        try:
-            peers = [all_of_them.enter_context(client.connect()) for _ in range(count)]
-        finally:
-            process.send_signal(signal.SIGCONT)
-        for at in reversed(range(count)):
-            asks(peers[at], f"connection {at + 1} of {count} that came at once")
-
-
 def answers_after_ends(client):
     """Checks that a connection is answered after those that came before it have ended."""
     asks = asks_for_version(client)
@@ -711,7 +698,6 @@ SOCKETS = {
     "a slow head is ended": ends_slow_heads,
     "a 33rd connection is refused": limits_connections,
     "the connection that waited longest makes room": closes_idle,
-    "connections that come at once are answered": answers_all_at_once,
     "a connection is answered after others have ended": answers_after_ends,
     "a control session answers meanwhile": answers_sessions,
 }
@@ -1173,12 +1159,28 @@ def ends_with_session(command):
         same((b"Click::ControlSocket/1.3\r\n200 Goodbye!\r\n", 0), (out, router.process.returncode), "the output and the status of a run without --live")
 
 
+def answers_all_at_once(command):
+    """Checks 30 connections that come while the router is stopped: all are answered, the last first."""
+    with contextlib.ExitStack() as all_of_them:
+        router, count = all_of_them.enter_context(Router(command, WATCHED)), 30
+        client = Client(router, None)
+        asks = asks_for_version(client)
+        router.process.send_signal(signal.SIGSTOP)
+        try:
+            peers = [all_of_them.enter_context(client.connect()) for _ in range(count)]
+        finally:
+            router.process.send_signal(signal.SIGCONT)
+        for at in reversed(range(count)):
+            asks(peers[at], f"connection {at + 1} of {count} that came at once")
+
+
 CONNECTIONS = {
     "the page listens at 127.0.0.1 alone": listens_here_alone,
     "a large answer waits for a slow reader": answers_slow_readers,
     "the last answer is complete before its connection closes": closes_after_all,
     "the last answer is complete if its client still sends": closes_after_late_input,
     "two requests at once get two answers": answers_two_at_once,
+    "connections that come at once are answered": answers_all_at_once,
     "a client that ends its output gets its answer and the end": ends_with_client,
     "a connection without a request stays open": keeps_idle,
     "a request that is not finished gets 408": ends_unfinished,
