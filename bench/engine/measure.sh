@@ -2,10 +2,11 @@
 # Counts the instructions of a packet (or a round) through the engine, in Rattle and in plain Rust
 # (peer, and fused for the gateway), and compares their outputs.
 #
-#   bench/engine/measure.sh [cases|far|plant]..    measures these parts, or all
+#   bench/engine/measure.sh [cases|long|far|plant]..    measures these parts, or all
 #
-# `far` counts packets with and without 4,000 further elements. `plant` counts the making of plants
-# of four sizes. Needs rt, rustc and valgrind. This is not a part of the gate.
+# `long` counts packets of 1,500 bytes. `far` counts packets with and without 4,000 further
+# elements. `plant` counts the making of plants of four sizes. Needs rt, rustc and valgrind. This is
+# not a part of the gate.
 set -eu
 here="$(cd "$(dirname "$0")" && pwd)"
 . "$here/../lib/counting.sh"
@@ -22,12 +23,24 @@ cases() {
     ours
     each $rounds "$work/fused"
     beside 'forward, to one loop fused by hand' 2.0
-    for named in forward=1.0 chain=0.75 tee=1.0 sched=1.0 classifier=0.75 lookup=1.0 lookup-last=1.0; do
+    for named in forward=0.80 chain=0.73 tee=0.93 sched=0.97 classifier=0.45 lookup=0.50 lookup-last=0.50; do
         case=${named%=*} goal=${named#*=}
         each $rounds "$drive" engine "$case"
         ours
         each $rounds "$work/peer" "$case"
         beside "$case, to boxed elements" "$goal"
+    done
+}
+
+long() {
+    local case
+    peer peer "$here/peer/main.rs"
+    table 'Instructions for a packet of 1,500 bytes, compared with plain Rust'
+    for case in forward chain tee sched classifier; do
+        each $rounds "$drive" engine "long-$case"
+        ours
+        each $rounds "$work/peer" "long-$case"
+        beside "$case, to boxed elements" 1.0
     done
 }
 
@@ -55,4 +68,4 @@ plant() {
     done
 }
 
-parts 'cases far plant' "$@"
+parts 'cases long far plant' "$@"

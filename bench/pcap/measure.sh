@@ -46,7 +46,7 @@ of_packets() {
     instructions "${router[@]}" < "$work/in"
     went_through 11
     difference "$few" 10000 'packets of a capture'
-    row 'instructions for a packet' "$counted" '' '' ''
+    row 'instructions for a packet' "$counted" '' '' 1270
 }
 
 # raced MILLIONS: measures and prints the rows of a capture of this many million packets.
@@ -64,7 +64,7 @@ raced() {
     done
     read -r mine most <<< "$(median router "$1")"
     if [ "$has_peer" = yes ]; then read -r its its_most <<< "$(median tcpdump "$1")"; fi
-    row "$1 million: thousands of packets a second" "$mine" "$its" "$(ratio "$mine" "$its")" 'at least 0.3'
+    row "$1 million: thousands of packets a second" "$mine" "$its" "$(ratio "$mine" "$its")" 'at least 1.0'
     row "$1 million: peak memory, in KiB" "$most" "$its_most" "$(ratio "$most" "$its_most")" ''
 }
 

@@ -5,7 +5,7 @@ time of such swaps, and the packets that are lost meanwhile.
     bench/swap/memory.py [full|empty|time|packets ..]
 
 Each measurement is made twice: as the C library decides which blocks it takes from the system, and
-as clickd of service/ makes it decide. `full` makes 24 swaps of 64 full queues, and `empty` 2,000
+as it does with the variable that docs/OPERATING.md names. `full` makes 24 swaps of 64 full queues, and `empty` 2,000
 swaps of 64 empty ones. Four sessions make them in turn. `time` makes 200 swaps of a queue with
 5,000 packets, and of an empty one, between the capacities 5,000 and 9,999. `packets` sends 50,000 datagrams of 64
 bytes, 10,000 per second, over two links next to 0, 1 and 8 full queues. Every 50 ms a swap changes
@@ -29,7 +29,7 @@ sys.dont_write_bytecode = True
 TOP = os.path.dirname(os.path.dirname(os.path.dirname(os.path.realpath(__file__))))
 sys.path[1:1] = [f"{TOP}/tools", f"{TOP}/tools/lib"]
 from hostile import until
-from service import LARGE, Live, queues_of, swap_to, variable_of_clickd
+from service import LARGE, Live, queues_of, returning_variable, swap_to
 from sessions import Session
 
 QUEUES, SESSIONS = 64, 4
@@ -142,7 +142,7 @@ def loses(full: int) -> None:
 
 def main(words: list[str]) -> None:
     for name in words or ("full", "empty", "time", "packets"):
-        for variables in ({}, variable_of_clickd()):
+        for variables in ({}, returning_variable()):
             print(f"{name}, with {variables or 'the defaults of the C library'}", flush=True)
             with patch.dict(os.environ, variables):
                 if name == "packets":

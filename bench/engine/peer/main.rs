@@ -1,6 +1,6 @@
 //! The cases of `engine` of bench/drive in plain Rust. Elements are boxed trait objects that are
 //! connected by index. Packets come from a pool and are passed on in their boxes. Pushes and pulls
-//! are recursive virtual calls.
+//! are recursive virtual calls. A case whose name begins with `long-` has packets of 1,500 bytes.
 
 mod elements;
 mod packet;
@@ -40,10 +40,14 @@ fn main() {
     let words: Vec<String> = std::env::args().collect();
     let times: usize = words[2].parse().unwrap();
     let mut packet = Packet::empty();
-    packet.fill(&routers::packet_bytes());
-    let (router, sum) = match words[1].as_str() {
+    let (len, case) = match words[1].strip_prefix("long-") {
+        Some(rest) => (1_500, rest),
+        None => (64, words[1].as_str()),
+    };
+    packet.fill(&routers::packet_bytes(len));
+    let (router, sum) = match case {
         "forward" => {
-            let router = routers::forward();
+            let router = routers::forward(len);
             let sum = (0..times).map(|_| router.round()).sum();
             (router, sum)
         }

@@ -4,17 +4,17 @@ use crate::elements::*;
 use crate::router::{Joints, Router};
 use std::cell::Cell;
 
-/// A packet of 64 bytes from 10.0.0.1 to 10.1.0.2, port 1031.
-pub fn packet_bytes() -> Vec<u8> {
+/// A packet of `len` bytes, at least 64, from 10.0.0.1 to 10.1.0.2, port 1031.
+pub fn packet_bytes(len: usize) -> Vec<u8> {
     let mut bytes = vec![
         0x45, 0, 0, 64, 0, 1, 0, 0, 64, 17, 0x66, 0xa9, 10, 0, 0, 1, 10, 1, 0, 2, 0x10, 0, 0x04, 0x07, 0, 44,
         0, 0,
     ];
-    bytes.resize(64, 7);
+    bytes.resize(len, 7);
     bytes
 }
 
-pub fn forward() -> Router {
+pub fn forward(len: usize) -> Router {
     let mut router = Router::new();
     let routes = vec![
         Route::new([0, 0, 0, 0], 0, None, 0),
@@ -25,7 +25,7 @@ pub fn forward() -> Router {
     let header = [2, 2, 2, 2, 2, 2, 1, 1, 1, 1, 1, 1, 8, 0];
     let source = InfiniteSource {
         joints: Joints::default(),
-        bytes: packet_bytes(),
+        bytes: packet_bytes(len),
         limit: None,
         burst: 1,
         count: Cell::new(0),

@@ -4,12 +4,12 @@ use Rattle.click_classes.specs.declared.ports.Side.{Side}
 use Rattle.click_classes.specs.declared.ports.Side.TheVariants as side
 use Rattle.click_expand.specs.declared.flat.Connection.{Connection}
 use Rattle.click_ports.specs.Net.{Net}
-use Rattle.click_engine.specs.RunState.{Wiring, RunState}
+use Rattle.click_engine.specs.RunState.{Wiring, RunState, but_last}
 use Rattle.click_engine.specs.declared.run_state.ConnectionEnd.{ConnectionEnd}
-use Rattle.click_engine.specs.declared.run_state.RunMemory.{RunMemory}
+use Rattle.click_engine.specs.declared.run_memory.RunMemory.{RunMemory}
 
 abbrev pub run_state_of : RunMemory → RunState
-run_state_of w = record { elements = w.elements.items; left = w.left; overruns = w.overruns }
+run_state_of w = record { elements = but_last w.elements.items; left = w.left; overruns = w.overruns }
 
 -- the end of a connection at a side: the output that it leaves, or the input that it enters
 abbrev pub end_of : Side → Connection → ConnectionEnd

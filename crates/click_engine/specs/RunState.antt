@@ -1,5 +1,5 @@
 -- The state that a packet run changes, and the wiring that it follows.
-use Rattle.std.specs.Prelude.{◌≡◌, ℕ, Bool, ◌+◌, ◌-◌, ◌^◌, min, List, Option, slice_index_or, slice_set}
+use Rattle.std.specs.Prelude.{◌≡◌, ℕ, Bool, ◌+◌, ◌-◌, ◌^◌, ◌<◌, min, List, Option, length, take, slice_index_or, slice_set}
 use Rattle.click_classes.specs.declared.state.State.{State}
 use Rattle.click_classes.specs.declared.state.State.TheVariants.{Idle}
 use Rattle.click_packet.specs.Packet.{Packet}
@@ -23,6 +23,15 @@ pub record RunState : Type 0 where
 -- an Idle, which drops each packet that it gets and never has one
 abbrev pub blank : Element
 blank = record { class = class.Idle; inputs = 0; outputs = 0; state = Idle }
+
+-- a list that ends with such an Idle, which is no element of the net: an end without a connection
+-- leads to it
+abbrev pub EndsBlank : List Element → Type 0
+EndsBlank es = (0 < length es) × (slice_index_or es (length es - 1) blank ≡ blank)
+
+-- the elements of the net
+abbrev pub but_last : List Element → List Element
+but_last es = take (length es - 1) es
 
 abbrev pub element_at : RunState → ℕ → Element
 element_at w at = slice_index_or w.elements at blank

@@ -2,6 +2,7 @@
 pub mod Asked
 pub mod Transfers
 pub mod Slots
+pub mod Sums
 pub mod Tables
 pub mod Taking
 pub mod Tasks

@@ -4,8 +4,8 @@ ghost use Rattle.click_engine.specs.Adjacency.{run_state_of, wiring_of};
 ghost use Rattle.click_engine.specs.kept.Transfers.{Served};
 ghost use Rattle.click_engine.specs.kept.Slots.{ServedAbove};
 
-use crate::adjacency::{Adjacency, target_in};
-use crate::run_state::RunMemory;
+use crate::adjacency::{Adjacency, far_in};
+use crate::run_memory::RunMemory;
 use crate::transfer_stack::PushFrame;
 use crate::transfers::push_copy;
 
@@ -18,16 +18,19 @@ fn push_copies(
     push_frame: &mut PushFrame,
     copy: &mut PushFrame,
 )
-    ensures { Served (wiring_of adjacency.now) (run_state_of run_memory.old) (run_state_of run_memory.new) push_frame.old push_frame.new copy.new }
+    requires circuit { vec_len run_memory.old.elements ≡ length adjacency.now.shapes + 1 }
+    ensures served { Served (wiring_of adjacency.now) (run_state_of run_memory.old) (run_state_of run_memory.new) push_frame.old push_frame.new copy.new }
+    ensures count { vec_len run_memory.new.elements ≡ vec_len run_memory.old.elements }
 {
     copy.count = 0;
     let row = adjacency.targets(push_frame.at);
+    let count = adjacency.len();
     while copy.count == 0 && push_frame.count > 1 {
         copy.packet.copy_from(&push_frame.packet);
         let output = push_frame.first;
         push_frame.first += 1;
         push_frame.count -= 1;
-        push_copy(adjacency, run_memory, target_in(row, output), copy);
+        push_copy(adjacency, run_memory, far_in(count, row, output), copy);
     }
 }
 
@@ -39,8 +42,10 @@ fn serve_slots(
     slots: &mut [PushFrame],
     top: usize,
 )
-    requires { top + 1 < length slots.old }
-    ensures { ServedAbove (wiring_of adjacency.now) (run_state_of run_memory.old) (run_state_of run_memory.new) slots.old slots.new top }
+    requires top { top + 1 < length slots.old }
+    requires circuit { vec_len run_memory.old.elements ≡ length adjacency.now.shapes + 1 }
+    ensures served { ServedAbove (wiring_of adjacency.now) (run_state_of run_memory.old) (run_state_of run_memory.new) slots.old slots.new top }
+    ensures count { vec_len run_memory.new.elements ≡ vec_len run_memory.old.elements }
 {
     let (below, above) = slots.split_at_mut(top + 1);
     push_copies(adjacency, run_memory, &mut below[top], &mut above[0]);
@@ -54,9 +59,11 @@ pub(crate) fn serve_above(
     push_frames: &mut Vec<PushFrame>,
     top: usize,
 )
-    requires { top + 1 < vec_len push_frames.old }
+    requires top { top + 1 < vec_len push_frames.old }
+    requires circuit { vec_len run_memory.old.elements ≡ length adjacency.now.shapes + 1 }
     ensures served { ServedAbove (wiring_of adjacency.now) (run_state_of run_memory.old) (run_state_of run_memory.new) push_frames.old.items push_frames.new.items top }
     ensures capacity { vec_capacity push_frames.old ≤ vec_capacity push_frames.new }
+    ensures count { vec_len run_memory.new.elements ≡ vec_len run_memory.old.elements }
 {
     serve_slots(adjacency, run_memory, push_frames.as_mut_slice(), top);
 }

@@ -110,6 +110,17 @@ impl DeviceNames {
         if unindexed.is_some() {
             return unindexed;
         }
+        self.find_indexed(name)
+    }
+
+    /// Returns the position of the name, from the index of all names.
+    ///
+    /// perf: out of line, so that `place` is small enough to be inlined.
+    #[cold]
+    #[inline(never)]
+    fn find_indexed(&self, name: &[u8]) -> Option<usize>
+        ensures { result ≡ position (bytes_eq name.now) self.now }
+    {
         self.all.place(name)
     }
 

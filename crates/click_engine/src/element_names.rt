@@ -1,59 +1,81 @@
 //! Finds an element by its flat name.
-ghost use Rattle.std.specs.Prelude.{◌≡◌, ℕ, List, position};
+ghost use Rattle.std.specs.Prelude.{◌≡◌, position};
 ghost use Rattle.std.specs.Str.{bytes_eq};
-ghost use Rattle.click_engine.specs.Devices.{element_with};
+ghost use Rattle.click_engine.specs.kept.Sums.{sum_of};
 
-use click_base::Names;
 use click_ports::Net;
+use indexmap::IndexMap;
 use std::alloc::{AllocError, Global};
-use std::marker::Model;
 
-/// The flat names of a net's elements, each with the first element that has it.
+/// The checksum of the empty name. It is the start of the 64-bit FNV-1 hash (Fowler, Noll and
+/// Vo). The checksum is a variant of that hash: it adds each byte where FNV-1 has an exclusive or.
+const EMPTY_SUM: u64 = 0xcbf2_9ce4_8422_2325;
+
+/// The factor by which the checksum is multiplied before each byte: the 64-bit FNV prime.
+const SUM_FACTOR: u64 = 0x100_0000_01b3;
+
+/// For the checksum of each flat name of a net, the first element whose name has it.
+///
+/// perf: the names stay in the net, so that none needs memory of its own.
 #[derive(Drop)]
 pub(crate) struct ElementNames {
-    names: Names,
-    places: Vec<usize>,
+    first: IndexMap<u64, usize>,
 }
 
-impl Model for ElementNames {
-    ghost use Rattle.std.specs.Prelude.{◌≡◌, List, length};
-    ghost use Rattle.click_engine.specs.Devices.{Device};
-    ghost use Rattle.click_engine.specs.kept.Tables.{devices};
+/// Returns the checksum of a name.
+fn sum_of(name: &[u8]) -> u64
+    ensures { result ≡ sum_of name.now }
+{
+    let mut sum = EMPTY_SUM;
+    for byte in name {
+        sum = sum.wrapping_mul(SUM_FACTOR).wrapping_add(u64::from(*byte));
+    }
+    sum
+}
 
-    ghost Value = { List Device };
-
-    ghost view = { λ t. devices t.names t.places.items };
-
-    ghost invariant = { λ t. length t.names ≡ length t.places.items };
+/// Returns the first element with that flat name. Compares all names.
+///
+/// perf: called only if two names have the same checksum.
+#[cold]
+#[inline(never)]
+fn first_named(net: &Net, name: &[u8]) -> Option<usize>
+    ensures { result ≡ position (bytes_eq name.now) net.now.names }
+{
+    for at in 0..net.shapes().len() {
+        if name == net.name(at) {
+            return Some(at);
+        }
+    }
+    None
 }
 
 impl ElementNames {
-    ghost use Rattle.std.specs.Prelude.{◌≡◌, IfOk};
-    ghost use Rattle.click_engine.specs.Devices.{element_with};
-    ghost use Rattle.click_engine.specs.kept.Tables.{FindsFirst};
+    ghost use Rattle.std.specs.Prelude.{◌≡◌, IfOk, position};
+    ghost use Rattle.std.specs.Str.{bytes_eq};
+    ghost use Rattle.click_engine.specs.kept.Sums.{FindsSums};
 
     /// Collects the flat names of a net's elements.
     pub(crate) fn of(alloc: Global, net: &Net) -> Result<ElementNames, AllocError>
-        ensures { IfOk result (λ t. FindsFirst t net.now.names) }
+        ensures { IfOk result (λ t. FindsSums t net.now.names) }
     {
         let count = net.shapes().len();
-        let mut names = Names::with_room(alloc, count)?;
-        let mut places = Vec::with_capacity(alloc, count)?;
-        for at in 0..count {
-            let is_known = names.add(alloc, net.name(at))?;
-            if is_known {
-                continue;
-            }
-            places.push(at)?;
+        let mut first = IndexMap::with_capacity(alloc, count)?;
+        // From the last to the first, so that the first of several stays.
+        for at in (0..count).rev() {
+            first.insert(sum_of(net.name(at)), at)?;
         }
-        Ok(ElementNames { names, places })
+        Ok(ElementNames { first })
     }
 
-    /// Returns the index of the first element with that flat name.
-    pub(crate) fn place(&self, name: &[u8]) -> Option<usize>
-        ensures { result ≡ element_with self.now name.now }
+    /// Returns the index of the first element of the net with that flat name.
+    pub(crate) fn place(&self, net: &Net, name: &[u8]) -> Option<usize>
+        requires { FindsSums self.now net.now.names }
+        ensures { result ≡ position (bytes_eq name.now) net.now.names }
     {
-        let at = self.names.place(name)?;
-        Some(self.places[at])
+        let first = *self.first.get(&sum_of(name))?;
+        if name == net.name(first) {
+            return Some(first);
+        }
+        first_named(net, name)
     }
 }

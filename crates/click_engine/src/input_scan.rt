@@ -1,5 +1,5 @@
 //! The inputs of an element that are asked one after another, without a frame for it.
-ghost use Rattle.std.specs.Prelude.{◌≡◌, ◌<◌};
+ghost use Rattle.std.specs.Prelude.{◌≡◌, ◌+◌, ◌<◌, length, vec_len};
 ghost use Rattle.click_classes.specs.Acts.{after};
 ghost use Rattle.click_engine.specs.Adjacency.{run_state_of, wiring_of};
 ghost use Rattle.click_engine.specs.Frames.{moved_on};
@@ -7,7 +7,7 @@ ghost use Rattle.click_engine.specs.kept.Asked.{Asked, IsSmall, asks_now};
 ghost use Rattle.click_engine.specs.declared.transfer_stack.PullFrame.TheVariants.{Tries};
 
 use crate::adjacency::Adjacency;
-use crate::run_state::RunMemory;
+use crate::run_memory::RunMemory;
 use crate::transfer_stack::PullFrame;
 use crate::transfers::{PullResult, pull_over};
 use click_packet::Packet;
@@ -56,6 +56,7 @@ pub(crate) fn move_on(input_scan: &mut InputScan)
     requires some { 0 < input_scan.old.count }
     requires small { IsSmall input_scan.old }
     ensures moved { asks_now input_scan.new ≡ moved_on (asks_now input_scan.old) }
+    ensures at { input_scan.new.at ≡ input_scan.old.at }
     ensures small { IsSmall input_scan.new }
 {
     input_scan.count -= 1;
@@ -72,10 +73,13 @@ pub(crate) fn ask_until_answer(
     input_scan: &mut InputScan,
     packet: &mut Packet,
 ) -> PullResult
+    requires circuit { vec_len run_memory.old.elements ≡ length adjacency.now.shapes + 1 }
     requires some { 0 < input_scan.old.count }
     requires small { IsSmall input_scan.old }
     ensures asked { Asked (wiring_of adjacency.now) (run_state_of run_memory.old) (run_state_of run_memory.new) input_scan.old input_scan.new packet.new result }
     ensures small { IsSmall input_scan.new }
+    ensures at { input_scan.new.at ≡ input_scan.old.at }
+    ensures count { vec_len run_memory.new.elements ≡ vec_len run_memory.old.elements }
 {
     loop {
         let pull_result = pull_over(

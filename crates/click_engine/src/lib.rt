@@ -3,6 +3,7 @@
 #![tactic(auto)]
 
 mod adjacency;
+mod circuit;
 mod copies;
 mod device_names;
 mod devices;
@@ -10,6 +11,7 @@ mod element_names;
 mod input_scan;
 pub mod laws;
 mod plant;
+mod run_memory;
 mod run_state;
 mod runs;
 mod slots;
@@ -17,7 +19,7 @@ mod tasks;
 mod transfer_stack;
 mod transfers;
 
-pub use adjacency::Adjacency;
+pub use circuit::Circuit;
 pub use plant::Plant;
-pub use run_state::{ConnectionEnd, Element, RunMemory};
+pub use run_state::{ConnectionEnd, Element};
 pub use transfer_stack::TransferStack;

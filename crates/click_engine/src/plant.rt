@@ -4,13 +4,13 @@ ghost use Rattle.click_engine.specs.Devices.{devices_from};
 ghost use Rattle.click_engine.specs.Plant.{elements_from};
 ghost use Rattle.click_engine.specs.Tasks.{AreTasks};
 ghost use Rattle.click_engine.specs.declared.devices.PacketDirection.TheVariants.{In, Out};
-ghost use Rattle.click_engine.specs.kept.Tables.{FindsFirst};
+ghost use Rattle.click_engine.specs.kept.Sums.{FindsSums};
 ghost use Rattle.click_engine.specs.kept.Tasks.{places_of, IsTaskIn};
 
-use crate::adjacency::Adjacency;
+use crate::circuit::Circuit;
 use crate::devices::{Devices, PacketDirection};
 use crate::element_names::ElementNames;
-use crate::run_state::{Element, RunMemory};
+use crate::run_state::Element;
 use crate::runs::{pull_packet, pull_task, push_answer, push_packet, take_one};
 use crate::tasks::{Task, TaskKind, tasks_of};
 use crate::transfer_stack::TransferStack;
@@ -29,12 +29,11 @@ pub const MAX_CROSSINGS: usize = 1_024;
 /// The runtime form of a net: its elements, their connections and devices, and a reserved stack.
 #[derive(Drop)]
 pub struct Plant {
-    adjacency: Adjacency,
+    circuit: Circuit,
     names: ElementNames,
     tasks: Vec<Task>,
     sources: Devices,
     sinks: Devices,
-    run_memory: RunMemory,
     transfer_stack: TransferStack,
     /// For each element, whether its output 0 is connected to a Queue.
     ///
@@ -46,22 +45,24 @@ impl Model for Plant {
     ghost use Rattle.std.specs.Prelude.{◌≡◌, ℕ, ◌+◌, [], length, All};
     ghost use Rattle.click_engine.specs.Plant.{Plant as Seen};
     ghost use Rattle.click_engine.specs.declared.plant.TheConstants.{MAX_CROSSINGS};
-    ghost use Rattle.click_engine.specs.kept.Tables.{FindsFirst};
+    ghost use Rattle.click_engine.specs.RunState.{but_last};
+    ghost use Rattle.click_engine.specs.kept.Sums.{FindsSums};
+    ghost use Rattle.click_engine.specs.kept.Tables.{AreAmong};
     ghost use Rattle.click_engine.specs.kept.Tasks.{places_of, IsTaskIn};
 
     ghost Value = { Seen };
 
     ghost view = { λ p. record {
-      net = p.adjacency;
+      net = p.circuit.adjacency;
       tasks = places_of p.tasks.items;
       sources = p.sources;
       sinks = p.sinks;
-      elements = p.run_memory.elements.items;
-      overruns = p.run_memory.overruns;
+      elements = but_last p.circuit.run_memory.elements.items;
+      overruns = p.circuit.run_memory.overruns;
     } };
 
-    ghost invariant = { λ p. (p.transfer_stack.frames ≡ []) × (p.transfer_stack.room ≡ MAX_CROSSINGS + 1) × FindsFirst p.names p.adjacency.names
-        × All (IsTaskIn p.adjacency.shapes) p.tasks.items };
+    ghost invariant = { λ p. (p.transfer_stack.frames ≡ []) × (p.transfer_stack.room ≡ MAX_CROSSINGS + 1) × FindsSums p.names p.circuit.adjacency.names
+        × All (IsTaskIn p.circuit.adjacency.shapes) p.tasks.items × AreAmong (length p.circuit.adjacency.shapes) p.sources × AreAmong (length p.circuit.adjacency.shapes) p.sinks };
 }
 
 /// What a plant looks up: the tasks, the names and the devices of its elements.
@@ -79,7 +80,7 @@ struct Lookups {
 fn lookups_of(alloc: Global, net: &Net, states: &[State]) -> Result<Lookups, AllocError>
     ensures tasks { IfOk result (λ t. AreTasks net.now 0 net.now.shapes (places_of t.tasks.items)) }
     ensures classes { IfOk result (λ t. All (IsTaskIn net.now.shapes) t.tasks.items) }
-    ensures names { IfOk result (λ t. FindsFirst t.names net.now.names) }
+    ensures names { IfOk result (λ t. FindsSums t.names net.now.names) }
     ensures sources { IfOk result (λ t. t.sources ≡ devices_from In 0 states.now) }
     ensures sinks { IfOk result (λ t. t.sinks ≡ devices_from Out 0 states.now) }
 {
@@ -100,7 +101,7 @@ fn elements_of(alloc: Global, net: &Net, states: Vec<State>) -> Result<Vec<Eleme
     requires { vec_len states ≡ length net.now.shapes }
     ensures { IfOk result (λ elements. elements.items ≡ elements_from net.now 0 states.items) }
 {
-    let mut elements = Vec::with_capacity(alloc, states.len())?;
+    let mut elements = Vec::with_capacity(alloc, states.len() + 1)?;
     for state in states {
         let at = elements.len();
         elements.push(Element {
@@ -135,8 +136,8 @@ impl Plant {
     {
         let lookups = lookups_of(alloc, &net, states.as_slice())?;
         let elements = elements_of(alloc, &net, states)?;
-        let adjacency = Adjacency::new(alloc, net)?;
-        let leads_to_queue = leads_to_queue(alloc, &adjacency, elements.as_slice())?;
+        let circuit = Circuit::new(alloc, net, elements)?;
+        let leads_to_queue = leads_to_queue(alloc, &circuit)?;
         let transfer_stack = TransferStack::with_room(alloc, MAX_CROSSINGS + 1)?;
         let Lookups {
             tasks,
@@ -144,18 +145,12 @@ impl Plant {
             sources,
             sinks,
         } = lookups;
-        let run_memory = RunMemory {
-            elements,
-            left: 0,
-            overruns: 0,
-        };
         Ok(Plant {
-            adjacency,
+            circuit,
             names,
             tasks,
             sources,
             sinks,
-            run_memory,
             transfer_stack,
             leads_to_queue,
         })
@@ -165,28 +160,28 @@ impl Plant {
     pub fn net(&self) -> &Net
         ensures { result.now ≡ self.now.net }
     {
-        self.adjacency.net()
+        self.circuit.adjacency.net()
     }
 
     /// Returns the number of overruns.
     pub fn overruns(&self) -> u64
         ensures { result ≡ self.now.overruns }
     {
-        self.run_memory.overruns
+        self.circuit.run_memory.overruns
     }
 
     /// Returns the number of elements.
     pub fn len(&self) -> usize
         ensures { result ≡ length self.now.elements }
     {
-        self.run_memory.elements.len()
+        self.circuit.adjacency.len()
     }
 
     /// Returns the index of the element with that flat name.
     pub fn place(&self, name: &[u8]) -> Option<usize>
         ensures { result ≡ place_of self.now name.now }
     {
-        self.names.place(name)
+        self.names.place(self.circuit.adjacency.net(), name)
     }
 
     /// Returns the element with that index.
@@ -194,7 +189,7 @@ impl Plant {
         requires { at < length self.now.elements }
         ensures { result.now ≡ slice_index_or self.now.elements at result.now }
     {
-        &self.run_memory.elements[at]
+        &self.circuit.run_memory.elements[at]
     }
 
     /// Returns whether a FromDevice names the device.
@@ -245,34 +240,68 @@ impl Plant {
     /// perf: out of line, so that the search for the device stays small.
     #[inline(never)]
     fn enter_at(&mut self, at: usize, packet: &Packet)
+        requires { at < length self.old.net.shapes }
         ensures { self.new ≡ emitted self.old at packet.now }
     {
-        self.run_memory.left = MAX_CROSSINGS;
+        let to_queue = self.leads_to_queue.get(at) == Some(&true);
+        let circuit = &mut self.circuit;
+        circuit.run_memory.left = MAX_CROSSINGS;
         push_packet(
-            &self.adjacency,
-            &mut self.run_memory,
+            &circuit.adjacency,
+            &mut circuit.run_memory,
             &mut self.transfer_stack,
             at,
             packet,
-            self.leads_to_queue.get(at) == Some(&true),
+            to_queue,
         );
     }
 
     /// Pulls a packet at the ToDevice of a device. Returns `None` if the device has no ToDevice or
     /// gets no packet.
+    ///
+    /// perf: out of line the packet would be copied at each return.
+    #[inline(always)]
     pub fn pull(&mut self, device: &[u8]) -> Option<Packet>
         ensures plant { self.new ≡ transmit self.old device.now }
         ensures packet { result ≡ transmitted self.old device.now }
     {
         let at = self.sinks.element(device)?;
-        self.run_memory.left = MAX_CROSSINGS;
+        let circuit = &mut self.circuit;
+        circuit.run_memory.left = MAX_CROSSINGS;
         let _answered = pull_packet(
-            &self.adjacency,
-            &mut self.run_memory,
+            &circuit.adjacency,
+            &mut circuit.run_memory,
             &mut self.transfer_stack,
             at,
         );
         self.transfer_stack.answer()
+    }
+
+    /// Does what `pull` does, but copies the packet into `packet`. Returns false, and leaves `packet`
+    /// unchanged, if there is none.
+    ///
+    /// perf: only the packet's own bytes are copied, and no packet is cleared first.
+    #[inline(always)]
+    pub fn pull_into(&mut self, device: &[u8], packet: &mut Packet) -> bool
+        ensures plant { self.new ≡ transmit self.old device.now }
+        ensures packet { MatchOption (transmitted self.old device.now) ((result ≡ false) × (packet.new ≡ packet.old)) (λ p. (result ≡ true) × (packet.new ≡ p)) }
+    {
+        let Some(at) = self.sinks.element(device) else {
+            return false;
+        };
+        let circuit = &mut self.circuit;
+        circuit.run_memory.left = MAX_CROSSINGS;
+        let _answered = pull_packet(
+            &circuit.adjacency,
+            &mut circuit.run_memory,
+            &mut self.transfer_stack,
+            at,
+        );
+        let Some(answer) = self.transfer_stack.lent_answer() else {
+            return false;
+        };
+        packet.copy_from(answer);
+        true
     }
 
     /// Does what `pull` does, but passes the packet to `f` without copying it.
@@ -284,10 +313,11 @@ impl Plant {
         ensures packet { MatchOption (transmitted self.old device.now) (result ≡ None) (λ p. (r : R) × (result ≡ Some r) × FnOnceReturnsAt F.FnOnce f p r) }
     {
         let at = self.sinks.element(device)?;
-        self.run_memory.left = MAX_CROSSINGS;
+        let circuit = &mut self.circuit;
+        circuit.run_memory.left = MAX_CROSSINGS;
         let _answered = pull_packet(
-            &self.adjacency,
-            &mut self.run_memory,
+            &circuit.adjacency,
+            &mut circuit.run_memory,
             &mut self.transfer_stack,
             at,
         );
@@ -320,18 +350,19 @@ impl Plant {
         ensures plant { self.new ≡ (ran self.old task.at).plant }
         ensures packets { result ≡ (ran self.old task.at).packets }
     {
-        self.run_memory.left = MAX_CROSSINGS;
+        let circuit = &mut self.circuit;
+        circuit.run_memory.left = MAX_CROSSINGS;
         if !take_one(
-            &self.adjacency,
-            &mut self.run_memory,
+            &circuit.adjacency,
+            &mut circuit.run_memory,
             &mut self.transfer_stack,
             task,
         ) {
             return self.run_outlined(task);
         }
         push_answer(
-            &self.adjacency,
-            &mut self.run_memory,
+            &circuit.adjacency,
+            &mut circuit.run_memory,
             &mut self.transfer_stack,
             task.at,
             false,
@@ -345,6 +376,7 @@ impl Plant {
     /// an Unqueue that got no packet.
     #[inline(never)]
     fn run_outlined(&mut self, task: Task) -> u64
+        requires { task.at < length self.old.net.shapes }
         ensures plant { self.new ≡ (task_apart (class_of_task task.kind) self.old task.at).plant }
         ensures packets { result ≡ (task_apart (class_of_task task.kind) self.old task.at).packets }
     {
@@ -357,10 +389,11 @@ impl Plant {
 
     /// Emits packets of an InfiniteSource, up to its burst. Returns their number.
     fn emit_burst(&mut self, at: usize) -> u64
+        requires { at < length self.old.net.shapes }
         ensures plant { self.new ≡ (bursts (burst_of (state_at self.old at)) at self.old).plant }
         ensures packets { result ≡ (bursts (burst_of (state_at self.old at)) at self.old).packets }
     {
-        let most = self.run_memory.burst(at);
+        let most = self.circuit.run_memory.burst(at);
         let mut packets = 0;
         for _packet in 0..most {
             if !self.emit(at) {
@@ -373,16 +406,21 @@ impl Plant {
 
     /// Emits one packet of an InfiniteSource. Returns false if it has none left.
     fn emit(&mut self, at: usize) -> bool
+        requires { at < length self.old.net.shapes }
         ensures { MatchOption (emission (state_at self.old at)) ((result ≡ false) × (self.new ≡ self.old))
             (λ e. (result ≡ true) × (self.new ≡ sourced self.old at e)) }
     {
-        self.run_memory.left = MAX_CROSSINGS;
-        if !self.transfer_stack.take_emission(&mut self.run_memory, at) {
+        let circuit = &mut self.circuit;
+        circuit.run_memory.left = MAX_CROSSINGS;
+        if !self
+            .transfer_stack
+            .take_emission(&mut circuit.run_memory, at)
+        {
             return false;
         }
         push_answer(
-            &self.adjacency,
-            &mut self.run_memory,
+            &circuit.adjacency,
+            &mut circuit.run_memory,
             &mut self.transfer_stack,
             at,
             true,
@@ -391,14 +429,16 @@ impl Plant {
     }
 
     fn discard(&mut self, at: usize) -> u64
+        requires { at < length self.old.net.shapes }
         ensures plant { self.new ≡ (discarded self.old at).plant }
         ensures packets { result ≡ (discarded self.old at).packets }
         ensures few { result ≤ 1 }
     {
-        self.run_memory.left = MAX_CROSSINGS;
+        let circuit = &mut self.circuit;
+        circuit.run_memory.left = MAX_CROSSINGS;
         let answered = pull_task(
-            &self.adjacency,
-            &mut self.run_memory,
+            &circuit.adjacency,
+            &mut circuit.run_memory,
             &mut self.transfer_stack,
             at,
         );
@@ -419,9 +459,9 @@ impl Plant {
             outputs: 0,
             state: State::Idle,
         };
-        let element = mem::replace(&mut self.run_memory.elements[at], spare);
+        let element = mem::replace(&mut self.circuit.run_memory.elements[at], spare);
         let (element, answer) = f(element);
-        self.run_memory.elements[at] = element;
+        self.circuit.run_memory.elements[at] = element;
         answer
     }
 
@@ -435,10 +475,10 @@ impl Plant {
     pub fn take_over(&mut self, old: &mut Plant)
         ensures { self.new ≡ taken self.old old.old }
     {
-        for at in (0..self.adjacency.net().shapes().len()).rev() {
+        for at in (0..self.circuit.adjacency.net().shapes().len()).rev() {
             self.take_over_at(at, old);
         }
-        self.run_memory.overruns = old.run_memory.overruns;
+        self.circuit.run_memory.overruns = old.circuit.run_memory.overruns;
     }
 
     /// Makes the element with that index take over from the one of its flat name.
@@ -449,14 +489,14 @@ impl Plant {
         ensures taken { self.new ≡ taken_at self.old old.old at }
         ensures kept { IsKeptBefore self.old.net.names at old.old old.new }
     {
-        let name = self.adjacency.net().name(at);
+        let name = self.circuit.adjacency.net().name(at);
         let Some(place) = old.place(name) else {
             return;
         };
         let keeps = self.place(name) != Some(at);
-        if at < self.run_memory.elements.len() && place < old.run_memory.elements.len() {
-            let element = &mut self.run_memory.elements[at];
-            let before = &mut old.run_memory.elements[place];
+        if at < self.circuit.adjacency.len() && place < old.circuit.adjacency.len() {
+            let element = &mut self.circuit.run_memory.elements[at];
+            let before = &mut old.circuit.run_memory.elements[place];
             element
                 .state
                 .take_over(element.outputs, &mut before.state, keeps);

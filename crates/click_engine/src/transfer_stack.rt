@@ -4,7 +4,7 @@ ghost use Rattle.std.specs.Prelude.{◌≡◌, ℕ, ◌+◌, ◌-◌, ◌<◌, �
 use crate::adjacency::Adjacency;
 use crate::copies::serve_above;
 use crate::input_scan::{InputScan, ask_until_answer, move_on, waiting_frame};
-use crate::run_state::RunMemory;
+use crate::run_memory::RunMemory;
 use crate::slots::{copy_up, make_above, tries};
 use crate::transfers::{PullResult, pull_first, pull_over, push_along, push_over, push_slot};
 use click_packet::Packet;
@@ -73,7 +73,7 @@ impl Model for TransferStack {
 }
 
 impl TransferStack {
-    ghost use Rattle.std.specs.Prelude.{◌≡◌, ℕ, ◌+◌, ◌-◌, ◌<◌, ◌≤◌, ◌^◌, List, [], ◌∷◌, ◌++◌, length, take, IfOk, IfSome, IsSome, IsTrue, ◌↔◌, None, Some, true, false, nat_lt, option_map, if◌then◌else◌};
+    ghost use Rattle.std.specs.Prelude.{◌≡◌, ℕ, ◌+◌, ◌-◌, ◌<◌, ◌≤◌, ◌^◌, List, [], ◌∷◌, ◌++◌, length, take, vec_len, IfOk, IfSome, IsSome, IsTrue, ◌↔◌, None, Some, true, false, nat_lt, option_map, if◌then◌else◌};
     ghost use Rattle.click_engine.specs.Frames.{Frame, Sends, Pulls, Asks, IsTurn, Follows, sends_first};
     ghost use Rattle.click_engine.specs.Adjacency.{run_state_of, wiring_of};
     ghost use Rattle.click_engine.specs.RunState.{Wiring, element_at, with_state};
@@ -172,9 +172,12 @@ impl TransferStack {
     ) -> bool
         requires done { self.old.frames ≡ [] }
         requires room { run_memory.old.left < self.old.room }
+        requires circuit { vec_len run_memory.old.elements ≡ length adjacency.now.shapes + 1 }
+        requires there { at < length adjacency.now.shapes }
         ensures follows { IfSome self.old.last (λ p. Follows (wiring_of adjacency.now) (run_state_of run_memory.old) (record { frames = Sends at 0 1 p ∷ []; last = None; room = self.old.room })
             (run_state_of run_memory.new) self.new) }
         ensures over { result ≡ false → self.new.frames ≡ [] }
+        ensures count { vec_len run_memory.new.elements ≡ vec_len run_memory.old.elements }
     {
         self.answered = false;
         let push_frame = &mut self.push_frames[0];
@@ -182,7 +185,7 @@ impl TransferStack {
             adjacency,
             run_memory,
             push_frame,
-            adjacency.target(at, 0),
+            adjacency.first_target(at),
             outlined,
         );
         if several {
@@ -206,9 +209,12 @@ impl TransferStack {
     ) -> Option<bool>
         requires done { self.old.frames ≡ [] }
         requires room { run_memory.old.left < self.old.room }
+        requires circuit { vec_len run_memory.old.elements ≡ length adjacency.now.shapes + 1 }
+        requires there { at < length adjacency.now.shapes }
         ensures follows { Follows (wiring_of adjacency.now) (run_state_of run_memory.old) (record { frames = Pulls at 0 ∷ []; last = None; room = self.old.room })
             (run_state_of run_memory.new) self.new }
         ensures over { IfSome result (λ answered. (self.new.frames ≡ []) × (IsTrue answered ↔ IsSome self.new.last)) }
+        ensures count { vec_len run_memory.new.elements ≡ vec_len run_memory.old.elements }
     {
         let push_frame = &mut self.push_frames[0];
         let pull_result = pull_first(adjacency, run_memory, at, &mut push_frame.packet);
@@ -251,9 +257,12 @@ impl TransferStack {
         requires done { self.old.frames ≡ [] }
         requires room { run_memory.old.left < self.old.room }
         requires some { 0 < count }
+        requires circuit { vec_len run_memory.old.elements ≡ length adjacency.now.shapes + 1 }
+        requires there { at < vec_len run_memory.old.elements }
         ensures follows { Follows (wiring_of adjacency.now) (run_state_of run_memory.old)
             (record { frames = Asks at inputs count first 0 ∷ []; last = None; room = self.old.room }) (run_state_of run_memory.new) self.new }
         ensures over { result ≡ false → self.new.frames ≡ [] }
+        ensures count { vec_len run_memory.new.elements ≡ vec_len run_memory.old.elements }
     {
         let mut input_scan = InputScan {
             at,
@@ -308,8 +317,11 @@ impl TransferStack {
         requires done { self.old.frames ≡ [] }
         requires room { run_memory.old.left < self.old.room }
         requires some { 0 < count }
-        ensures { Follows (wiring_of adjacency.now) (run_state_of run_memory.old)
+        requires circuit { vec_len run_memory.old.elements ≡ length adjacency.now.shapes + 1 }
+        requires there { at < vec_len run_memory.old.elements }
+        ensures follows { Follows (wiring_of adjacency.now) (run_state_of run_memory.old)
             (record { frames = Asks at inputs count first 0 ∷ []; last = None; room = self.old.room }) (run_state_of run_memory.new) self.new }
+        ensures count { vec_len run_memory.new.elements ≡ vec_len run_memory.old.elements }
     {
         let _waits = self.ask_inputs(adjacency, run_memory, at, inputs, count, first);
     }
@@ -321,11 +333,13 @@ impl TransferStack {
     #[inline(always)]
     pub(crate) fn take_first_emission(&mut self, run_memory: &mut RunMemory, at: usize) -> u8
         requires done { self.old.frames ≡ [] }
+        requires there { at < vec_len run_memory.old.elements }
         ensures left { run_memory.new.left ≡ run_memory.old.left }
         ensures emitted { (let s = (element_at (run_state_of run_memory.old) at).state in MatchOption (if nat_lt 0 (burst_of s) then emission s else None)
             ((result ≡ 0) × (run_state_of run_memory.new ≡ run_state_of run_memory.old) × (self.new ≡ record { frames = []; last = None; room = self.old.room }))
             (λ e. (result ≡ burst_of s) × (run_state_of run_memory.new ≡ with_state (run_state_of run_memory.old) at e.state)
             × (self.new ≡ record { frames = []; last = Some e.packet; room = self.old.room }))) }
+        ensures count { vec_len run_memory.new.elements ≡ vec_len run_memory.old.elements }
     {
         let push_frame = &mut self.push_frames[0];
         let most = run_memory.emit_first(at, &mut push_frame.packet);
@@ -337,11 +351,13 @@ impl TransferStack {
     /// none; there is no answer then.
     pub(crate) fn take_emission(&mut self, run_memory: &mut RunMemory, at: usize) -> bool
         requires done { self.old.frames ≡ [] }
+        requires there { at < vec_len run_memory.old.elements }
         ensures left { run_memory.new.left ≡ run_memory.old.left }
         ensures emitted { MatchOption (emission (element_at (run_state_of run_memory.old) at).state)
             ((result ≡ false) × (run_state_of run_memory.new ≡ run_state_of run_memory.old) × (self.new ≡ record { frames = []; last = None; room = self.old.room }))
             (λ s. (result ≡ true) × (run_state_of run_memory.new ≡ with_state (run_state_of run_memory.old) at s.state)
             × (self.new ≡ record { frames = []; last = Some s.packet; room = self.old.room })) }
+        ensures count { vec_len run_memory.new.elements ≡ vec_len run_memory.old.elements }
     {
         let push_frame = &mut self.push_frames[0];
         self.answered = run_memory.emit(at, &mut push_frame.packet);
@@ -355,7 +371,9 @@ impl TransferStack {
     #[inline(always)]
     pub(crate) fn run_pushes(&mut self, adjacency: &Adjacency, run_memory: &mut RunMemory)
         requires room { length self.old.frames + run_memory.old.left ≤ self.old.room }
-        ensures { Follows (wiring_of adjacency.now) (run_state_of run_memory.old) self.old (run_state_of run_memory.new) self.new }
+        requires circuit { vec_len run_memory.old.elements ≡ length adjacency.now.shapes + 1 }
+        ensures follows { Follows (wiring_of adjacency.now) (run_state_of run_memory.old) self.old (run_state_of run_memory.new) self.new }
+        ensures count { vec_len run_memory.new.elements ≡ vec_len run_memory.old.elements }
     {
         self.push_last(adjacency, run_memory);
         if self.sending > 0 {
@@ -366,7 +384,9 @@ impl TransferStack {
     #[inline(never)]
     fn push_rest(&mut self, adjacency: &Adjacency, run_memory: &mut RunMemory)
         requires room { length self.old.frames + run_memory.old.left ≤ self.old.room }
-        ensures { Follows (wiring_of adjacency.now) (run_state_of run_memory.old) self.old (run_state_of run_memory.new) self.new }
+        requires circuit { vec_len run_memory.old.elements ≡ length adjacency.now.shapes + 1 }
+        ensures follows { Follows (wiring_of adjacency.now) (run_state_of run_memory.old) self.old (run_state_of run_memory.new) self.new }
+        ensures count { vec_len run_memory.new.elements ≡ vec_len run_memory.old.elements }
     {
         self.push_copies(adjacency, run_memory);
         self.push_last(adjacency, run_memory);
@@ -379,7 +399,9 @@ impl TransferStack {
     #[inline(always)]
     fn push_copies(&mut self, adjacency: &Adjacency, run_memory: &mut RunMemory)
         requires room { length self.old.frames + run_memory.old.left ≤ self.old.room }
-        ensures { Follows (wiring_of adjacency.now) (run_state_of run_memory.old) self.old (run_state_of run_memory.new) self.new }
+        requires circuit { vec_len run_memory.old.elements ≡ length adjacency.now.shapes + 1 }
+        ensures follows { Follows (wiring_of adjacency.now) (run_state_of run_memory.old) self.old (run_state_of run_memory.new) self.new }
+        ensures count { vec_len run_memory.new.elements ≡ vec_len run_memory.old.elements }
     {
         if self.sending == 0 {
             return;
@@ -401,7 +423,9 @@ impl TransferStack {
     #[inline(always)]
     fn push_last(&mut self, adjacency: &Adjacency, run_memory: &mut RunMemory)
         requires room { length self.old.frames + run_memory.old.left ≤ self.old.room }
-        ensures { Follows (wiring_of adjacency.now) (run_state_of run_memory.old) self.old (run_state_of run_memory.new) self.new }
+        requires circuit { vec_len run_memory.old.elements ≡ length adjacency.now.shapes + 1 }
+        ensures follows { Follows (wiring_of adjacency.now) (run_state_of run_memory.old) self.old (run_state_of run_memory.new) self.new }
+        ensures count { vec_len run_memory.new.elements ≡ vec_len run_memory.old.elements }
     {
         if self.sending == 0 {
             return;
@@ -425,7 +449,9 @@ impl TransferStack {
     pub(crate) fn turn_push(&mut self, adjacency: &Adjacency, run_memory: &mut RunMemory)
         requires some { sends_first self.old.frames ≡ true }
         requires room { length self.old.frames + run_memory.old.left ≤ self.old.room }
-        ensures { IsTurn (wiring_of adjacency.now) (run_state_of run_memory.old) self.old (run_state_of run_memory.new) self.new }
+        requires circuit { vec_len run_memory.old.elements ≡ length adjacency.now.shapes + 1 }
+        ensures turn { IsTurn (wiring_of adjacency.now) (run_state_of run_memory.old) self.old (run_state_of run_memory.new) self.new }
+        ensures count { vec_len run_memory.new.elements ≡ vec_len run_memory.old.elements }
     {
         let top = self.sending - 1;
         let push_frame = &mut self.push_frames[top];
@@ -453,12 +479,15 @@ impl TransferStack {
             self.sending = top + 2;
         }
     }
+
     /// Makes one engine turn if no push is on top.
     pub(crate) fn turn_pull(&mut self, adjacency: &Adjacency, run_memory: &mut RunMemory)
         requires none { sends_first self.old.frames ≡ false }
         requires some { 0 < length self.old.frames }
         requires room { length self.old.frames + run_memory.old.left ≤ self.old.room }
-        ensures { IsTurn (wiring_of adjacency.now) (run_state_of run_memory.old) self.old (run_state_of run_memory.new) self.new }
+        requires circuit { vec_len run_memory.old.elements ≡ length adjacency.now.shapes + 1 }
+        ensures turn { IsTurn (wiring_of adjacency.now) (run_state_of run_memory.old) self.old (run_state_of run_memory.new) self.new }
+        ensures count { vec_len run_memory.new.elements ≡ vec_len run_memory.old.elements }
     {
         let top = self.asks.len() - 1;
         match self.asks[top] {
@@ -502,7 +531,9 @@ impl TransferStack {
     )
         requires top { take 1 self.old.frames ≡ Pulls at input ∷ [] }
         requires room { length self.old.frames + run_memory.old.left ≤ self.old.room }
-        ensures { IsTurn (wiring_of adjacency.now) (run_state_of run_memory.old) self.old (run_state_of run_memory.new) self.new }
+        requires circuit { vec_len run_memory.old.elements ≡ length adjacency.now.shapes + 1 }
+        ensures turn { IsTurn (wiring_of adjacency.now) (run_state_of run_memory.old) self.old (run_state_of run_memory.new) self.new }
+        ensures count { vec_len run_memory.new.elements ≡ vec_len run_memory.old.elements }
     {
         let top = self.asks.len() - 1;
         let push_frame = &mut self.push_frames[0];
@@ -523,15 +554,14 @@ impl TransferStack {
         requires small { IsSmall input_scan }
         requires answered { IsSome self.old.last }
         requires room { length self.old.frames + run_memory.old.left ≤ self.old.room }
-        ensures { (net : Wiring) → IsTurn net (run_state_of run_memory.old) self.old (run_state_of run_memory.new) self.new }
+        ensures turn { (net : Wiring) → IsTurn net (run_state_of run_memory.old) self.old (run_state_of run_memory.new) self.new }
+        ensures count { vec_len run_memory.new.elements ≡ vec_len run_memory.old.elements }
     {
         let top = self.asks.len() - 1;
         let push_frame = &mut self.push_frames[0];
-        let given = run_memory.gives(
-            input_scan.at,
-            input_scan.back as u16,
-            &mut push_frame.packet,
-        );
+        // proof: no type says that the index of a frame is that of an element.
+        let at = run_memory.clamped(input_scan.at);
+        let given = run_memory.gives(at, input_scan.back as u16, &mut push_frame.packet);
         self.answered = given.answers;
         self.asks.truncate(top);
         if given.copies.count > 0 {
@@ -558,7 +588,9 @@ impl TransferStack {
         requires more { 0 < input_scan.count }
         requires unanswered { self.old.last ≡ None }
         requires room { length self.old.frames + run_memory.old.left ≤ self.old.room }
-        ensures { IsTurn (wiring_of adjacency.now) (run_state_of run_memory.old) self.old (run_state_of run_memory.new) self.new }
+        requires circuit { vec_len run_memory.old.elements ≡ length adjacency.now.shapes + 1 }
+        ensures turn { IsTurn (wiring_of adjacency.now) (run_state_of run_memory.old) self.old (run_state_of run_memory.new) self.new }
+        ensures count { vec_len run_memory.new.elements ≡ vec_len run_memory.old.elements }
     {
         let top = self.asks.len() - 1;
         let push_frame = &mut self.push_frames[0];

@@ -4,13 +4,16 @@
 //! returns no answer, and either is counted as an overrun.
 ghost use Rattle.std.specs.Prelude.{◌≡◌, ℕ, ◌+◌, ◌<◌, ◌⊎◌, ◌≤◌, ◌^◌, length, vec_len, nat_lt, MatchOption, IfSome, None, Some, true, false};
 ghost use Rattle.click_engine.specs.Run.{push};
-ghost use Rattle.click_engine.specs.RunState.{Wiring};
+ghost use Rattle.click_ports.specs.Net.{Net};
+ghost use Rattle.click_engine.specs.RunState.{EndsBlank};
 ghost use Rattle.click_engine.specs.Adjacency.{run_state_of, wiring_of};
 ghost use Rattle.click_engine.specs.kept.Transfers.{run_state_with, run_state_after, Along, Pushed, Reached};
-ghost use Rattle.click_engine.specs.kept.Tables.{far_of, AreFirstTargets};
+ghost use Rattle.click_engine.specs.kept.Tables.{AreFirstTargets, AreWithin, IsTarget};
 
 use crate::adjacency::Adjacency;
-use crate::run_state::{ConnectionEnd, Element, RunMemory, act_at};
+use crate::circuit::Circuit;
+use crate::run_memory::RunMemory;
+use crate::run_state::{ConnectionEnd, Element, act_at};
 use crate::transfer_stack::PushFrame;
 use click_base::Class;
 use click_packet::Packet;
@@ -53,8 +56,10 @@ pub(crate) const NO_ANSWER: PullResult = PullResult {
 /// Their `count` is 0 if the packet ends there or no crossing is left.
 #[inline(always)]
 fn push_into(run_memory: &mut RunMemory, far: ConnectionEnd, push_frame: &mut PushFrame)
-    ensures { (net : Wiring) (at output : ℕ) → far ≡ far_of (net.target at output)
-        → Pushed net (run_state_of run_memory.old) (run_state_of run_memory.new) at output push_frame.old.packet push_frame.new.at push_frame.new.first push_frame.new.count push_frame.new.packet }
+    requires { far.element < vec_len run_memory.old.elements }
+    ensures pushed { (net : Net) (at output : ℕ) → IsTarget net at output far → vec_len run_memory.old.elements ≡ length net.shapes + 1
+        → Pushed (wiring_of net) (run_state_of run_memory.old) (run_state_of run_memory.new) at output push_frame.old.packet push_frame.new.at push_frame.new.first push_frame.new.count push_frame.new.packet }
+    ensures count { vec_len run_memory.new.elements ≡ vec_len run_memory.old.elements }
 {
     if run_memory.left == 0 {
         run_memory.overrun();
@@ -78,7 +83,9 @@ pub(crate) fn push_over(
     output: usize,
     push_frame: &mut PushFrame,
 )
-    ensures { Pushed (wiring_of adjacency.now) (run_state_of run_memory.old) (run_state_of run_memory.new) at output push_frame.old.packet push_frame.new.at push_frame.new.first push_frame.new.count push_frame.new.packet }
+    requires circuit { vec_len run_memory.old.elements ≡ length adjacency.now.shapes + 1 }
+    ensures pushed { Pushed (wiring_of adjacency.now) (run_state_of run_memory.old) (run_state_of run_memory.new) at output push_frame.old.packet push_frame.new.at push_frame.new.first push_frame.new.count push_frame.new.packet }
+    ensures count { vec_len run_memory.new.elements ≡ vec_len run_memory.old.elements }
 {
     push_into(run_memory, adjacency.target(at, output), push_frame);
 }
@@ -94,10 +101,12 @@ fn target_of(
     at: usize,
     output: u16,
 ) -> ConnectionEnd
-    requires first_targets { AreFirstTargets places.now ports.now (wiring_of adjacency.now).target }
+    requires first_targets { AreFirstTargets (length adjacency.now.shapes) places.now ports.now (wiring_of adjacency.now).target }
+    requires within { AreWithin (length adjacency.now.shapes) (wiring_of adjacency.now).target }
     requires place { at < length places.now }
     requires port { at < length ports.now }
-    ensures { result ≡ far_of ((wiring_of adjacency.now).target at output) }
+    ensures target { IsTarget adjacency.now at output result }
+    ensures within { result.element ≤ length adjacency.now.shapes }
 {
     if output == 0 {
         ConnectionEnd {
@@ -124,12 +133,15 @@ fn push_on(
     push_frame: &mut PushFrame,
     first: ConnectionEnd,
 ) -> bool
-    requires { length elements.old ≤ length adjacency.now.shapes }
-    ensures along { (at output lost : ℕ) → first ≡ far_of ((wiring_of adjacency.now).target at output)
+    requires circuit { length elements.old ≡ length adjacency.now.shapes + 1 }
+    requires blank { EndsBlank elements.old }
+    requires there { first.element ≤ length adjacency.now.shapes }
+    ensures along { (at output lost : ℕ) → IsTarget adjacency.now at output first
         → Along (wiring_of adjacency.now) (run_state_with elements.old left.old lost) (run_state_after result elements.new left.new lost) at output 1 push_frame.old.packet
         push_frame.new.at push_frame.new.first push_frame.new.count push_frame.new.packet }
     ensures ends { (push_frame.new.count ≡ 0) ⊎ (1 < push_frame.new.count) }
     ensures lost { result ≡ false → push_frame.new.count ≡ 0 }
+    ensures blank { EndsBlank elements.new }
 {
     let (places, ports) = adjacency.first_targets();
     let mut far = first;
@@ -153,35 +165,8 @@ fn push_on(
     false
 }
 
-/// Does what `push_fast` does, without its precondition and one step at a time.
-///
-/// proof: no plant has more elements than its net, so this is never called. The types of this
-/// module do not say so.
-#[cold]
-#[inline(never)]
-fn push_slowly(
-    adjacency: &Adjacency,
-    run_memory: &mut RunMemory,
-    push_frame: &mut PushFrame,
-    first: ConnectionEnd,
-) -> bool
-    ensures along { (at output : ℕ) → first ≡ far_of ((wiring_of adjacency.now).target at output) → Along (wiring_of adjacency.now) (run_state_of run_memory.old) (run_state_of run_memory.new)
-        at output 1 push_frame.old.packet push_frame.new.at push_frame.new.first push_frame.new.count push_frame.new.packet }
-    ensures ends { (push_frame.new.count ≡ 0) ⊎ (1 < push_frame.new.count) }
-    ensures several { result ≡ nat_lt 0 push_frame.new.count }
-{
-    push_into(run_memory, first, push_frame);
-    while push_frame.count == 1 {
-        let (at, output) = (push_frame.at, push_frame.first);
-        push_over(adjacency, run_memory, at, output, push_frame);
-    }
-    push_frame.count > 0
-}
-
 /// Pushes the packet of `push_frame` into the input `first`, and on while exactly one output gets
 /// it. Returns whether several outputs get it next.
-///
-/// Requires no more elements than the net has, which holds for every plant.
 #[inline(always)]
 fn push_fast(
     adjacency: &Adjacency,
@@ -189,11 +174,13 @@ fn push_fast(
     push_frame: &mut PushFrame,
     first: ConnectionEnd,
 ) -> bool
-    requires { vec_len run_memory.old.elements ≤ length adjacency.now.shapes }
-    ensures along { (at output : ℕ) → first ≡ far_of ((wiring_of adjacency.now).target at output) → Along (wiring_of adjacency.now) (run_state_of run_memory.old) (run_state_of run_memory.new)
+    requires circuit { vec_len run_memory.old.elements ≡ length adjacency.now.shapes + 1 }
+    requires there { first.element ≤ length adjacency.now.shapes }
+    ensures along { (at output : ℕ) → IsTarget adjacency.now at output first → Along (wiring_of adjacency.now) (run_state_of run_memory.old) (run_state_of run_memory.new)
         at output 1 push_frame.old.packet push_frame.new.at push_frame.new.first push_frame.new.count push_frame.new.packet }
     ensures ends { (push_frame.new.count ≡ 0) ⊎ (1 < push_frame.new.count) }
     ensures several { result ≡ nat_lt 0 push_frame.new.count }
+    ensures count { vec_len run_memory.new.elements ≡ vec_len run_memory.old.elements }
 {
     let elements = run_memory.elements.as_mut_slice();
     if push_on(adjacency, elements, &mut run_memory.left, push_frame, first) {
@@ -213,11 +200,13 @@ fn push_fast_outlined(
     push_frame: &mut PushFrame,
     first: ConnectionEnd,
 ) -> bool
-    requires { vec_len run_memory.old.elements ≤ length adjacency.now.shapes }
-    ensures along { (at output : ℕ) → first ≡ far_of ((wiring_of adjacency.now).target at output) → Along (wiring_of adjacency.now) (run_state_of run_memory.old) (run_state_of run_memory.new)
+    requires circuit { vec_len run_memory.old.elements ≡ length adjacency.now.shapes + 1 }
+    requires there { first.element ≤ length adjacency.now.shapes }
+    ensures along { (at output : ℕ) → IsTarget adjacency.now at output first → Along (wiring_of adjacency.now) (run_state_of run_memory.old) (run_state_of run_memory.new)
         at output 1 push_frame.old.packet push_frame.new.at push_frame.new.first push_frame.new.count push_frame.new.packet }
     ensures ends { (push_frame.new.count ≡ 0) ⊎ (1 < push_frame.new.count) }
     ensures several { result ≡ nat_lt 0 push_frame.new.count }
+    ensures count { vec_len run_memory.new.elements ≡ vec_len run_memory.old.elements }
 {
     push_fast(adjacency, run_memory, push_frame, first)
 }
@@ -234,14 +223,14 @@ pub(crate) fn push_slot(
     first: ConnectionEnd,
     outlined: bool,
 ) -> bool
-    ensures along { (at output : ℕ) → first ≡ far_of ((wiring_of adjacency.now).target at output) → Along (wiring_of adjacency.now) (run_state_of run_memory.old) (run_state_of run_memory.new)
+    requires circuit { vec_len run_memory.old.elements ≡ length adjacency.now.shapes + 1 }
+    requires there { first.element ≤ length adjacency.now.shapes }
+    ensures along { (at output : ℕ) → IsTarget adjacency.now at output first → Along (wiring_of adjacency.now) (run_state_of run_memory.old) (run_state_of run_memory.new)
         at output 1 push_frame.old.packet push_frame.new.at push_frame.new.first push_frame.new.count push_frame.new.packet }
     ensures ends { (push_frame.new.count ≡ 0) ⊎ (1 < push_frame.new.count) }
     ensures several { result ≡ nat_lt 0 push_frame.new.count }
+    ensures count { vec_len run_memory.new.elements ≡ vec_len run_memory.old.elements }
 {
-    if adjacency.len() < run_memory.elements.len() {
-        return push_slowly(adjacency, run_memory, push_frame, first);
-    }
     if outlined {
         return push_fast_outlined(adjacency, run_memory, push_frame, first);
     }
@@ -255,10 +244,12 @@ pub(crate) fn push_along(
     run_memory: &mut RunMemory,
     push_frame: &mut PushFrame,
 )
+    requires circuit { vec_len run_memory.old.elements ≡ length adjacency.now.shapes + 1 }
     ensures along { Along (wiring_of adjacency.now) (run_state_of run_memory.old) (run_state_of run_memory.new) push_frame.old.at push_frame.old.first push_frame.old.count push_frame.old.packet
         push_frame.new.at push_frame.new.first push_frame.new.count push_frame.new.packet }
     ensures ends { (push_frame.new.count ≡ 0) ⊎ (1 < push_frame.new.count) }
     ensures none { push_frame.old.count ≡ 0 → push_frame.new.count ≡ 0 }
+    ensures count { vec_len run_memory.new.elements ≡ vec_len run_memory.old.elements }
 {
     if push_frame.count == 1 {
         let far = adjacency.target(push_frame.at, push_frame.first);
@@ -277,9 +268,12 @@ pub(crate) fn push_copy(
     far: ConnectionEnd,
     push_frame: &mut PushFrame,
 )
-    ensures along { (at output : ℕ) → far ≡ far_of ((wiring_of adjacency.now).target at output) → Along (wiring_of adjacency.now) (run_state_of run_memory.old) (run_state_of run_memory.new)
+    requires circuit { vec_len run_memory.old.elements ≡ length adjacency.now.shapes + 1 }
+    requires there { far.element ≤ length adjacency.now.shapes }
+    ensures along { (at output : ℕ) → IsTarget adjacency.now at output far → Along (wiring_of adjacency.now) (run_state_of run_memory.old) (run_state_of run_memory.new)
         at output 1 push_frame.old.packet push_frame.new.at push_frame.new.first push_frame.new.count push_frame.new.packet }
     ensures ends { (push_frame.new.count ≡ 0) ⊎ (1 < push_frame.new.count) }
+    ensures count { vec_len run_memory.new.elements ≡ vec_len run_memory.old.elements }
 {
     push_into(run_memory, far, push_frame);
     push_along(adjacency, run_memory, push_frame);
@@ -295,17 +289,17 @@ pub(crate) fn pull_over(
     input: usize,
     packet: &mut Packet,
 ) -> PullResult
-    ensures { Reached (wiring_of adjacency.now) (run_state_of run_memory.old) (run_state_of run_memory.new) at input packet.new result }
+    requires circuit { vec_len run_memory.old.elements ≡ length adjacency.now.shapes + 1 }
+    ensures reached { Reached (wiring_of adjacency.now) (run_state_of run_memory.old) (run_state_of run_memory.new) at input packet.new result }
+    ensures count { vec_len run_memory.new.elements ≡ vec_len run_memory.old.elements }
+    ensures within { result.at < vec_len run_memory.new.elements }
 {
     if run_memory.left == 0 {
         run_memory.overrun();
         return NO_ANSWER;
     }
     run_memory.spend();
-    match adjacency.source(at, input) {
-        Some(far) => run_memory.reach(far, packet),
-        None => NO_ANSWER,
-    }
+    run_memory.reach(adjacency.source(at, input), packet)
 }
 
 /// Does what `pull_over` does, at input 0.
@@ -318,7 +312,11 @@ pub(crate) fn pull_first(
     at: usize,
     packet: &mut Packet,
 ) -> PullResult
-    ensures { Reached (wiring_of adjacency.now) (run_state_of run_memory.old) (run_state_of run_memory.new) at 0 packet.new result }
+    requires circuit { vec_len run_memory.old.elements ≡ length adjacency.now.shapes + 1 }
+    requires there { at < length adjacency.now.shapes }
+    ensures reached { Reached (wiring_of adjacency.now) (run_state_of run_memory.old) (run_state_of run_memory.new) at 0 packet.new result }
+    ensures count { vec_len run_memory.new.elements ≡ vec_len run_memory.old.elements }
+    ensures within { result.at < vec_len run_memory.new.elements }
 {
     if run_memory.left == 0 {
         run_memory.overrun();
@@ -332,18 +330,12 @@ pub(crate) fn pull_first(
 ///
 /// perf: only there is `store_at` worth an attempt. This is a hint: it never changes the result of
 /// a push, so it has no contract.
-pub(crate) fn leads_to_queue(
-    alloc: Global,
-    adjacency: &Adjacency,
-    elements: &[Element],
-) -> Result<Vec<bool>, AllocError> {
-    let mut leads_to_queue = Vec::with_capacity(alloc, elements.len())?;
-    for at in 0..elements.len() {
-        let far = adjacency.target(at, 0);
-        leads_to_queue.push(match elements.get(far.element) {
-            Some(element) => element.class == Class::Queue,
-            None => false,
-        })?;
+pub(crate) fn leads_to_queue(alloc: Global, circuit: &Circuit) -> Result<Vec<bool>, AllocError> {
+    let count = circuit.adjacency.len();
+    let mut leads_to_queue = Vec::with_capacity(alloc, count)?;
+    for at in 0..count {
+        let far = circuit.adjacency.first_target(at);
+        leads_to_queue.push(circuit.run_memory.elements[far.element].class == Class::Queue)?;
     }
     Ok(leads_to_queue)
 }
@@ -361,9 +353,12 @@ pub(crate) fn store_at(
     packet: &Packet,
     to_queue: bool,
 ) -> bool
+    requires circuit { vec_len run_memory.old.elements ≡ length adjacency.now.shapes + 1 }
+    requires there { at < length adjacency.now.shapes }
     ensures stored { result ≡ true → run_state_of run_memory.new ≡ push (wiring_of adjacency.now) run_memory.old.left (run_state_of run_memory.old) at 0 packet.now }
     ensures other { result ≡ false → run_state_of run_memory.new ≡ run_state_of run_memory.old }
     ensures fewer { run_memory.new.left ≤ run_memory.old.left }
+    ensures count { vec_len run_memory.new.elements ≡ vec_len run_memory.old.elements }
 {
     if !to_queue {
         return false;
@@ -371,7 +366,7 @@ pub(crate) fn store_at(
     if run_memory.left == 0 {
         return false;
     }
-    let far = adjacency.target(at, 0);
+    let far = adjacency.first_target(at);
     if run_memory.store(far.element, packet) {
         run_memory.spend();
         return true;

@@ -8,9 +8,9 @@ use Rattle.click_classes.specs.declared.ports.Side.{Side}
 use Rattle.click_classes.specs.declared.ports.Side.TheVariants.{Input, Output}
 use Rattle.click_expand.specs.declared.flat.Connection.{Connection}
 use Rattle.click_ports.specs.declared.port.Port.{Port}
-use Rattle.click_ports.specs.Ports.{joined_port, joins, Has, input, output}
+use Rattle.click_ports.specs.Ports.{joined_port, joins, Has, input, output, first, port_index}
 use Rattle.click_ports.specs.kept.Ends.{far_end, far_ends}
-use Rattle.click_ports.specs.kept.Wiring.{Wiring, first, port_index}
+use Rattle.click_ports.specs.kept.Wiring.{Wiring}
 use Rattle.std.proofs.lemmas.List.Elements.{Contains-get_or}
 use Rattle.click_ports.proofs.PortNumbers.{number-same, same_port}
 use Rattle.click_ports.proofs.PortUses.{has-end}

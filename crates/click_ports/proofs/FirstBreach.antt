@@ -14,13 +14,13 @@ use Rattle.click_ports.specs.declared.fault.FaultKind.TheVariants as kind
 use Rattle.click_ports.specs.declared.fault.PortFault.{PortFault}
 use Rattle.click_ports.specs.declared.port.Port.{Port}
 use Rattle.click_ports.specs.declared.shape.Shape.{Shape}
-use Rattle.click_ports.specs.Ports.{used, Has, uses, joins, input, output}
+use Rattle.click_ports.specs.Ports.{used, Has, uses, joins, input, output, first, port_index}
 use Rattle.click_ports.specs.Kinds.{IsMixed, IsSingle, push_output, pull_input}
 use Rattle.click_ports.specs.Lawful.{IsCounted, AllCounted, AllConnected, NoneMixed, AllSingle}
 use Rattle.click_ports.specs.Breaches.{IsMiscounted, inputs_out, outputs_out, unequal, fault_at, count_fault, IsBreach, count, unused, mixed, twice, side_rank, PortBefore, BreachBefore, IsFirstBreach}
 use Rattle.click_ports.specs.kept.Ends.{far_end, far_ends, AreFarEnds}
 use Rattle.click_ports.specs.kept.Marks.{AreMarks, is_single}
-use Rattle.click_ports.specs.kept.Wiring.{Wiring, first, port_index, AreWithin}
+use Rattle.click_ports.specs.kept.Wiring.{Wiring, AreWithin}
 use Rattle.click_ports.proofs.PortNumbers.{number-before, number-same, number-within}
 use Rattle.click_ports.proofs.PortUses.{has-within}
 

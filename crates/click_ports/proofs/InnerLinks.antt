@@ -12,12 +12,12 @@ use Rattle.click_classes.specs.declared.ports.Code.TheVariants.{Agnostic}
 use Rattle.click_classes.specs.Ports.{passes}
 use Rattle.click_expand.specs.declared.flat.Connection.{Connection}
 use Rattle.click_ports.specs.declared.port.Port.{Port}
-use Rattle.click_ports.specs.Ports.{Has, used}
+use Rattle.click_ports.specs.Ports.{Has, used, port_index, first}
 use Rattle.click_ports.specs.Links.{class_at, code_at, IsAgnostic}
 use Rattle.click_ports.specs.kept.Passages.{Crosses, across, passes_between, opposite, IsRow, AreRows}
 use Rattle.click_ports.specs.kept.Marks.{AreCodes}
 use Rattle.click_ports.specs.kept.Search.{code_of}
-use Rattle.click_ports.specs.kept.Wiring.{Wiring, port_index, first, AreWithin, InPlace}
+use Rattle.click_ports.specs.kept.Wiring.{Wiring, AreWithin, InPlace}
 use Rattle.click_ports.proofs.PortNumbers.{number-same, number-within}
 use Rattle.click_ports.proofs.PortUses.{has-within}
 

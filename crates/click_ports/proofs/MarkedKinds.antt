@@ -9,14 +9,14 @@ use Rattle.click_classes.specs.declared.ports.Side.TheVariants.{Input, Output}
 use Rattle.click_expand.specs.declared.flat.Connection.{Connection}
 use Rattle.click_ports.specs.declared.port.Port.{Port}
 use Rattle.click_ports.specs.declared.shape.Shape.{Shape}
-use Rattle.click_ports.specs.Ports.{used, joined_port, joins, Has, input, output}
+use Rattle.click_ports.specs.Ports.{used, joined_port, joins, Has, input, output, first, port_index}
 use Rattle.click_ports.specs.Links.{code_at, IsFixed, Linked, along, against, through, back}
 use Rattle.click_ports.specs.Kinds.{Reaches, itself, linked, further, Meets}
 use Rattle.click_ports.specs.kept.Ends.{far_end, far_ends, AreFarEnds}
 use Rattle.click_ports.specs.kept.Marks.{AreCodes, AreMarks}
 use Rattle.click_ports.specs.kept.Passages.{opposite, across, Crosses, AreRows}
 use Rattle.click_ports.specs.kept.Search.{code_of, row_at, IsNext, IsGraph, Spreads, begins, goes_on, AreMarked}
-use Rattle.click_ports.specs.kept.Wiring.{Wiring, first, port_index, AreWithin}
+use Rattle.click_ports.specs.kept.Wiring.{Wiring, AreWithin}
 use Rattle.click_ports.proofs.PortNumbers.{number-same, number-within}
 use Rattle.click_ports.proofs.FarEnds.{joins-end, joins-is}
 use Rattle.click_ports.proofs.PortUses.{has-end, has-within}

@@ -10,11 +10,11 @@ use Rattle.click_expand.specs.declared.flat.Connection.{Connection}
 use Rattle.click_ports.specs.declared.numbering.Block.{Block}
 use Rattle.click_ports.specs.declared.port.Port.{Port}
 use Rattle.click_ports.specs.declared.shape.Shape.{Shape}
-use Rattle.click_ports.specs.Ports.{used, Has}
+use Rattle.click_ports.specs.Ports.{used, Has, first, ahead, port_index}
 use Rattle.click_ports.specs.kept.LaidOut.{IsLaidOut}
 use Rattle.click_ports.specs.Breaches.{PortBefore, side_rank}
 use Rattle.click_ports.specs.kept.Numbered.{side_ports}
-use Rattle.click_ports.specs.kept.Wiring.{Wiring, first, ahead, ahead_in, count_in, port_index, block_of, InPlace, AreNumbered}
+use Rattle.click_ports.specs.kept.Wiring.{Wiring, ahead_in, count_in, block_of, InPlace, AreNumbered}
 use Rattle.click_ports.proofs.PortUses.{has-within}
 
 -- the item at an index of a list with one more item
@@ -95,6 +95,10 @@ number-ends : (cs : List Connection) (e : ℕ) (s : Side) (k : ℕ) → k < used
 number-ends cs e Input k h = omega (arith, h)
 number-ends cs e Output k h = omega (arith, h)
 
+side-ends : (cs : List Connection) (e : ℕ) (s : Side) → first cs e + ahead cs e s + used cs e s ≤ first cs (suc e)
+side-ends cs e Input = omega arith
+side-ends cs e Output = omega arith
+
 -- the number of a port is below the number of all ports of the elements
 pub number-within : (cs : List Connection) (n : ℕ) (p : Port) → Has cs p → p.element < n → port_index cs p < first cs n
 number-within cs n p h l =
@@ -167,6 +171,15 @@ pub used-read : (ss : List Shape) (cs : List Connection) (blocks : List Block) (
 used-read ss cs blocks ports e b s n k l h c =
     let is : n ≡ used cs e s = c ∙ count-block cs e b s (block-read ss cs blocks ports e b k l h) in
     (is, subst (λ x. x ≤ 256) (sym is) (k.numbered.small e s l))
+
+-- the number of a first port, and the ports that follow it
+pub first-read : (ss : List Shape) (cs : List Connection) (blocks : List Block) (ports : List Port) (e : ℕ) (s : Side) (b : Block) (a : ℕ) → IsLaidOut ss cs blocks ports → e < length ss → b ≡ get_or blocks e b → a ≡ ahead_in b s →
+    (b.first + a ≡ port_index cs (record { element = e; side = s; number = 0 })) × (b.first + a + used cs e s ≤ first cs (length ss)) × (first cs (length ss) ≡ length ports)
+first-read ss cs blocks ports e s b a k l r c =
+    let p : Port = record { element = e; side = s; number = 0 } in
+    let is : b.first + a + 0 ≡ port_index cs p = place_number cs b p a (block-read ss cs blocks ports e b k l r) c in
+    let last : first cs (suc e) ≤ first cs (length ss) = first-le cs (suc e) (length ss) (omega (arith, l)) in
+    (omega (arith, is), omega (arith, is, side-ends cs e s, last), sym k.numbered.all_ports)
 
 pub number-read : (ss : List Shape) (cs : List Connection) (blocks : List Block) (ports : List Port) (p : Port) (b : Block) (a : ℕ) → IsLaidOut ss cs blocks ports → Has cs p → b ≡ get_or blocks p.element b → a ≡ ahead_in b p.side →
     (b.first + a + p.number ≡ port_index cs p) × (port_index cs p < length ports)

@@ -20,8 +20,8 @@ use Rattle.click_ports.specs.Kinds.{IsPull}
 use Rattle.click_ports.specs.Lawful.{Lawful, AllCounted, AllConnected, NoneMixed, AllSingle}
 use Rattle.click_ports.specs.kept.Marks.{AreMarks}
 use Rattle.click_ports.specs.Net.{IsLawfulNet, Net, shape_of, is_there, joined, names_of, AreStatesOf}
-use Rattle.click_ports.specs.Ports.{Has, used}
-use Rattle.click_ports.specs.kept.Wiring.{Wiring, AreWithin, port_index}
+use Rattle.click_ports.specs.Ports.{Has, used, port_index}
+use Rattle.click_ports.specs.kept.Wiring.{Wiring, AreWithin}
 use Rattle.click_ports.proofs.Lawfulness.{lawful-none}
 use Rattle.click_ports.proofs.FirstBreach.{mark-read}
 use Rattle.click_ports.proofs.PortUses.{has-within}

@@ -1,5 +1,5 @@
 -- The ports of the elements of a net (Click manual, "Ports").
-use Rattle.std.specs.Prelude.{ℕ, ◌+◌, ◌<◌, max, List, [], ◌∷◌, count_by, Bool, ◌&&◌, nat_eq, if◌then◌else◌}
+use Rattle.std.specs.Prelude.{ℕ, suc, zero, ◌+◌, ◌<◌, max, List, [], ◌∷◌, count_by, Bool, ◌&&◌, nat_eq, if◌then◌else◌}
 use Rattle.click_classes.specs.declared.ports.Side.{Side}
 use Rattle.click_classes.specs.declared.ports.Side.TheVariants.{Input, Output}
 use Rattle.click_expand.specs.declared.flat.Connection.{Connection}
@@ -36,3 +36,17 @@ joins p c = nat_eq (joined_port p.side c).element p.element && nat_eq (joined_po
 -- the number of connections of the port
 abbrev pub uses : List Connection → Port → ℕ
 uses cs p = count_by (joins p) cs
+
+-- the number of the element's first port; all ports are numbered element by element, inputs before
+-- outputs
+abbrev pub first : List Connection → ℕ → ℕ
+first cs zero = 0
+first cs (suc e) = first cs e + (used cs e Input + used cs e Output)
+
+-- the number of ports of the element that come before those of the side
+abbrev pub ahead : List Connection → ℕ → Side → ℕ
+ahead cs e Input = 0
+ahead cs e Output = used cs e Input
+
+abbrev pub port_index : List Connection → Port → ℕ
+port_index cs p = first cs p.element + ahead cs p.element p.side + p.number

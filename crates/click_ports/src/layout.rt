@@ -1,10 +1,10 @@
 //! A layout: elements and connections, with all ports numbered.
 
-ghost use Rattle.std.specs.Prelude.{◌≡◌, ◌↔◌, ◌<◌, ◌≤◌, length, IfOk, IsTrue};
+ghost use Rattle.std.specs.Prelude.{◌≡◌, ◌↔◌, ◌+◌, ◌<◌, ◌≤◌, length, IfOk, IsTrue};
 ghost use Rattle.click_ports.specs.Ports as spec;
-ghost use Rattle.click_ports.specs.Ports.{Has};
+ghost use Rattle.click_ports.specs.Ports.{Has, first, port_index};
 ghost use Rattle.click_ports.specs.Links as links;
-ghost use Rattle.click_ports.specs.kept.Wiring.{AreWithin, InPlace, first, port_index};
+ghost use Rattle.click_ports.specs.kept.Wiring.{AreWithin, InPlace};
 
 use crate::numbering::{Block, numbered};
 use crate::port::Port;
@@ -79,12 +79,24 @@ impl Layout {
     }
 
     /// Returns the number of ports of the element at the side.
+    #[inline(always)]
     pub fn used(&self, element: usize, side: Side) -> u16
         requires { element < length self.now.shapes }
         ensures value { result ≡ spec.used self.now.connections element side }
         ensures small { result ≤ 256 }
     {
         self.blocks[element].count(side)
+    }
+
+    /// Returns the number of the element's first port at the side. The others at the side follow it.
+    #[inline(always)]
+    pub fn first_number(&self, element: usize, side: Side) -> usize
+        requires { element < length self.now.shapes }
+        ensures value { result ≡ port_index self.now.connections (record { element = element; side = side; number = 0 }) }
+        ensures within { result + spec.used self.now.connections element side ≤ first self.now.connections (length self.now.shapes) }
+    {
+        let block = self.blocks[element];
+        block.first + usize::from(block.ahead(side))
     }
 
     /// Returns the number of the port.

@@ -1,7 +1,7 @@
 //! A net: elements and connections that satisfy the port rules (`IsLawfulNet`), with each port
 //! resolved to push or pull.
 
-ghost use Rattle.std.specs.Prelude.{◌≡◌, ◌↔◌, ◌<◌, ◌≤◌, [], length, IfSome, IsSome, IsTrue, slice_index_or};
+ghost use Rattle.std.specs.Prelude.{◌≡◌, ◌↔◌, ◌+◌, ◌<◌, ◌≤◌, [], length, IfSome, IsSome, IsTrue, slice_index_or};
 ghost use Rattle.click_ports.specs.kept.Nets.{KeepsNet};
 ghost use Rattle.click_ports.specs.Kinds.{IsPull};
 ghost use Rattle.click_ports.specs.Net.{IsLawfulNet};
@@ -75,7 +75,26 @@ impl Net {
         self.layout.connections()
     }
 
+    /// Returns the number of ports of all elements.
+    pub fn port_count(&self) -> usize
+        ensures { result ≡ spec.first self.now.connections (length self.now.shapes) }
+    {
+        self.layout.ports().len()
+    }
+
+    /// Returns the number of the element's first port at this side. The ports of all elements are
+    /// numbered element by element, inputs before outputs.
+    #[inline(always)]
+    pub fn first_port(&self, element: usize, side: Side) -> usize
+        requires { element < length self.now.shapes }
+        ensures value { result ≡ spec.port_index self.now.connections (record { element = element; side = side; number = 0 }) }
+        ensures within { result + spec.used self.now.connections element side ≤ spec.first self.now.connections (length self.now.shapes) }
+    {
+        self.layout.first_number(element, side)
+    }
+
     /// Returns one more than the highest connected port number of the element at this side, or 0.
+    #[inline(always)]
     pub fn used(&self, element: usize, side: Side) -> u16
         requires { element < length self.now.shapes }
         ensures value { result ≡ spec.used self.now.connections element side }

@@ -23,6 +23,7 @@ impl Block {
     ghost use Rattle.click_ports.specs.kept.Wiring.{ahead_in, count_in};
 
     /// Returns the number of ports of the element that come before those of the side.
+    #[inline(always)]
     pub fn ahead(self, side: Side) -> u16
         ensures { result ≡ ahead_in self side }
     {
@@ -33,6 +34,7 @@ impl Block {
     }
 
     /// Returns the number of ports at the side.
+    #[inline(always)]
     pub fn count(self, side: Side) -> u16
         ensures { result ≡ count_in self side }
     {

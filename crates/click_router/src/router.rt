@@ -27,7 +27,7 @@ impl<T> Model for Router<T> {
 }
 
 impl<T> Router<T> {
-    ghost use Rattle.std.specs.Prelude.{◌≡◌, ◌↔◌, IsTrue, IsSome, List, false};
+    ghost use Rattle.std.specs.Prelude.{◌≡◌, ◌↔◌, ◌⊎◌, IsTrue, IsSome, List, None, Some, true, false};
     ghost use Rattle.click_packet.specs.Packet.{Packet as APacket};
     ghost use Rattle.click_engine.specs.Rounds.{source_of, sink_of};
     ghost use Rattle.click_router.specs.State.{RouterState};
@@ -82,10 +82,27 @@ impl<T> Router<T> {
     }
 
     /// Takes a packet for a device, as the call Transmit does. Allocates nothing.
+    ///
+    /// perf: out of line the packet would be copied at each return.
+    #[inline(always)]
     pub fn transmit(&mut self, device: &[u8]) -> Reply
         ensures { Answers self.old (transmit device.now) self.new result }
     {
         self.running.transmit(device)
+    }
+
+    /// Takes a packet for a device, as the call Transmit does, and copies it into `packet`. Returns
+    /// false, and leaves `packet` unchanged, if the reply is `NoDevice` or has no packet. Allocates
+    /// nothing.
+    ///
+    /// perf: a `Reply` has room for a packet, which this saves.
+    #[inline(always)]
+    pub fn transmit_into(&mut self, device: &[u8], packet: &mut Packet) -> bool
+        ensures sent { result ≡ true → Answers self.old (transmit device.now) self.new (Reply.Sent (Some packet.new)) }
+        ensures none { result ≡ false → Answers self.old (transmit device.now) self.new (Reply.Sent None) ⊎ Answers self.old (transmit device.now) self.new Reply.NoDevice }
+        ensures same { result ≡ false → packet.new ≡ packet.old }
+    {
+        self.running.transmit_into(device, packet)
     }
 
     /// Runs each task once, as the call Round does. Returns the number of packets that the tasks

@@ -51,7 +51,7 @@ fn enter_all(plant: &mut Plant, device: &[u8], taken: &[StoredPacket])
 }
 
 impl RunningConfig {
-    ghost use Rattle.std.specs.Prelude.{◌≡◌, ◌↔◌, ◌∷◌, [], true, None, Some, slice_get, IsTrue, IsSome, IfOk, IfSome, MatchOption, MatchResult};
+    ghost use Rattle.std.specs.Prelude.{◌≡◌, ◌↔◌, ◌⊎◌, ◌∷◌, [], true, false, None, Some, slice_get, IsTrue, IsSome, IfOk, IfSome, MatchOption, MatchResult};
     ghost use Rattle.click_engine.specs.Rounds.{source_of, sink_of};
     ghost use Rattle.click_router.specs.Globals.{global_value};
     ghost use Rattle.click_router.specs.One as spec;
@@ -185,6 +185,9 @@ impl RunningConfig {
     }
 
     /// Takes a packet for a device. The reply holds the whole packet.
+    ///
+    /// perf: out of line the packet would be copied at each return.
+    #[inline(always)]
     pub(crate) fn transmit(&mut self, device: &[u8]) -> Reply
         ensures { sent self.old device.now ≡ (self.new, result) }
     {
@@ -192,6 +195,17 @@ impl RunningConfig {
             return Reply::NoDevice;
         }
         Reply::Sent(self.plant.pull(device))
+    }
+
+    /// Takes a packet for a device, and copies it into `packet`. Returns false, and leaves `packet`
+    /// unchanged, if the device has no ToDevice or gets no packet.
+    #[inline(always)]
+    pub(crate) fn transmit_into(&mut self, device: &[u8], packet: &mut Packet) -> bool
+        ensures sent { result ≡ true → sent self.old device.now ≡ (self.new, Reply.Sent (Some packet.new)) }
+        ensures none { result ≡ false → (sent self.old device.now ≡ (self.new, Reply.Sent None)) ⊎ (sent self.old device.now ≡ (self.new, Reply.NoDevice)) }
+        ensures same { result ≡ false → packet.new ≡ packet.old }
+    {
+        self.plant.pull_into(device, packet)
     }
 
     /// Takes a packet for a device, and stores it in the given room.

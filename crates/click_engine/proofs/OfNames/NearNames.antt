@@ -1,13 +1,14 @@
 -- Lemmas about names that are compared one after another.
-use Rattle.std.proofs.Common.{◌≡◌, ℕ, zero, suc, ◌+◌, ◌<◌, refl, sym, ap, ◌∙◌, Bool, true, false, cond, Some, List, [], ◌∷◌, ◌++◌, length, take, drop, get_or, arith}
+use Rattle.std.proofs.Common.{◌≡◌, ℕ, zero, suc, ◌+◌, ◌<◌, refl, sym, ap, ◌∙◌, Bool, true, false, Some, List, [], ◌∷◌, ◌++◌, length, take, drop, get_or, arith}
 use Rattle.std.specs.Prelude.{position}
 use Rattle.std.specs.List.{position_from}
 use Rattle.std.specs.Str.{bytes_eq}
 use Rattle.std.specs.declared.vec.Vec.{Vec}
 use Rattle.std.specs.declared.alloc.Global.{Global}
-use Rattle.std.proofs.lemmas.List.{take-append-le, take_all, length-map, drop_more, same_lists, get_or_default}
+use Rattle.std.proofs.lemmas.List.{take-append-le, take_all, length-map, same_lists, get_or_default}
 use Rattle.std.proofs.lemmas.Slice.Eq.{bytes_eq-Decides}
 use Rattle.std.proofs.lemmas.Iterator.Adapters.{position_from-zero}
+use Rattle.click_engine.proofs.OfNames.FirstNames.{is_first, is_later}
 use Rattle.click_engine.specs.kept.Tables.{texts}
 
 -- names with different bytes are not equal
@@ -35,20 +36,17 @@ texts-at (n ∷ ns) zero v h e = ap (λ (x : Vec ℕ Global). x.items) e
 texts-at (n ∷ ns) (suc i) v h e = texts-at ns i v (omega (arith, h)) e
 
 module _ (name : List ℕ) (vecs : List (Vec ℕ Global)) (at : ℕ) (v : Vec ℕ Global) (inside : at < length vecs) (here : v ≡ get_or vecs at v) (so_far : FoundFrom name (texts vecs) at) where
-  by_first : (b : Bool) → bytes_eq name v.items ≡ b
-      → position (bytes_eq name) (texts vecs) ≡ cond b (Some at) (position_from (bytes_eq name) (at + 1) (drop (at + 1) (texts vecs)))
-  by_first b e =
-      let rest = position_from (bytes_eq name) (at + 1) (drop (at + 1) (texts vecs)) in
-      so_far
-      ∙ ap (λ ys. position_from (bytes_eq name) at ys) (drop_more (texts vecs) at v.items (omega (arith, inside, length-map vecs (λ (n : Vec ℕ Global). n.items))))
-      ∙ ap (λ x. cond (bytes_eq name x) (Some at) rest) (sym (texts-at vecs at v inside here))
-      ∙ ap (λ t. cond t (Some at) rest) e
+  is_within : at < length (texts vecs)
+  is_within = omega (arith, inside, length-map vecs (λ (n : Vec ℕ Global). n.items))
+
+  is_here : v.items ≡ get_or (texts vecs) at []
+  is_here = texts-at vecs at v inside here ∙ get_or_default (texts vecs) at v.items [] is_within
 
   pub found_here : bytes_eq name v.items ≡ true → Some at ≡ position (bytes_eq name) (texts vecs)
-  found_here e = sym (by_first true e)
+  found_here = is_first name (texts vecs) at v.items is_within is_here so_far
 
   pub found_later : bytes_eq name v.items ≡ false → FoundFrom name (texts vecs) (at + 1)
-  found_later e = by_first false e
+  found_later = is_later name (texts vecs) at v.items is_within is_here so_far
 
 -- if there are eight names, no further one is among the first eight
 pub near_full : (names : List (Vec ℕ Global)) (name : List ℕ) → length names ≡ 8 → texts names ≡ take 8 (texts names ++ name ∷ [])

@@ -1,5 +1,7 @@
 -- Lemmas about the plant that begins with a net and first states.
-use Rattle.std.proofs.Common.{◌≡◌, ◌≢◌, ◌⊎◌, inl, inr, ℕ, ◌+◌, refl, sym, ap, ◌∙◌, List, [], ◌∷◌, Bool, true, false, cond, position, Option, Some}
+use Rattle.std.proofs.Common.{◌≡◌, ◌≢◌, ◌⊎◌, inl, inr, ℕ, ◌+◌, refl, sym, ap, ◌∙◌, List, [], ◌∷◌, Bool, true, false, ◌<◌, length, arith, cond, position, Option, Some, None}
+use Rattle.std.specs.Prelude.{IfSome}
+use Rattle.std.proofs.lemmas.List.Quantifiers.{position-Some}
 use Rattle.std.specs.List.{position_from}
 use Rattle.std.specs.Str.{bytes_eq}
 use Rattle.std.proofs.lemmas.Iterator.Adapters.{position_from-zero}
@@ -12,6 +14,7 @@ use Rattle.click_engine.specs.declared.run_state.Element.{Element}
 use Rattle.click_engine.specs.declared.devices.PacketDirection.{PacketDirection}
 use Rattle.click_engine.specs.declared.devices.PacketDirection.TheVariants as direction
 use Rattle.click_engine.specs.Devices.{Device, without, devices_from, element_with}
+use Rattle.click_engine.specs.kept.Tables.{AreAmong}
 use Rattle.click_engine.specs.Plant.{Plant, IsStarted}
 use Rattle.click_engine.specs.Rounds.{source_of, sink_of}
 use Rattle.click_engine.specs.Tasks.{AreTasks, over, task, idle}
@@ -82,3 +85,13 @@ enters_first net states v h device =
 pub leaves_first : (net : Net) (states : List State) (v : Plant) → IsStarted net states v → (device : List ℕ) → sink_of v device ≡ position (is_sink device) states
 leaves_first net states v h device =
     ap (λ ds. element_with ds device) h.sinks_are ∙ first-found direction.Out device 0 states ∙ sym (position_from-zero (is_at direction.Out device) states)
+
+-- each device of these states is at one of them
+pub devices_among : (w : PacketDirection) (ss : List State) (n : ℕ) (ds : List Device) → length ss ≡ n → ds ≡ devices_from w 0 ss → AreAmong n ds
+devices_among w ss n ds l is device =
+    let found : element_with ds device ≡ position (is_at w device) ss = ap (λ xs. element_with xs device) is ∙ first-found w device 0 ss ∙ sym (position_from-zero (is_at w device) ss) in
+    rw found (go (position (is_at w device) ss) refl)
+  where
+    go : (o : Option ℕ) → position (is_at w device) ss ≡ o → IfSome o (λ at. at < n)
+    go None e = tt
+    go (Some at) e = omega (arith, l, (position-Some (is_at w device) ss at state.Idle e).0)

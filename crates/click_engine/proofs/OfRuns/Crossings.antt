@@ -1,5 +1,5 @@
 -- Lemmas about the result of a push or a pull over one connection.
-use Rattle.std.proofs.Common.{◌≡◌, ◌≢◌, ◌⊎◌, ℕ, zero, suc, inl, ◌+◌, ◌-◌, ◌*◌, ◌^◌, ◌<◌, inr, length, refl, sym, ap, ◌∙◌, Option, Some, None, Bool, true, false, if◌then◌else◌, MatchOption, arith}
+use Rattle.std.proofs.Common.{◌≡◌, ◌≢◌, ◌⊎◌, ℕ, zero, suc, inl, ◌+◌, ◌-◌, ◌*◌, ◌<◌, ◌≤◌, inr, length, refl, sym, ap, ◌∙◌, Option, Some, None, Bool, true, false, if◌then◌else◌, MatchOption, arith}
 use Rattle.click_packet.specs.Packet.{Packet}
 use Rattle.click_classes.specs.Acts.{stored, Stored}
 use Rattle.click_classes.specs.declared.packet_effects.PortRange.{PortRange}
@@ -56,14 +56,14 @@ module _ (net : Wiring) (w v : RunState) (at o : ℕ) where
       }
 
   -- an output without a connection leads past all elements, where nothing is done
-  pub pushed_on : (p q : Packet) (far : ConnectionEnd) (w1 : RunState) (to : PortRange) → 0 < w.left → far ≡ far_of (net.target at o) → length w.elements < 2 ^ 64
+  pub pushed_on : (p q : Packet) (far : ConnectionEnd) (w1 : RunState) (to : PortRange) (n : ℕ) → 0 < w.left → far ≡ far_of n (net.target at o) → length w.elements ≤ n
       → w1 ≡ spent w → Acts w1 v far.element far.port p q to → to.count < 65536 → Pushed net w v at o p far.element to.first to.count q
-  pushed_on p q far w1 to h is short e acts few = go (net.target at o) refl
+  pushed_on p q far w1 to n h is short e acts few = go (net.target at o) refl
     where
       go : (t : Option ConnectionEnd) → net.target at o ≡ t → Pushed net w v at o p far.element to.first to.count q
-      go (Some f) t = pushed_far p q far w1 to h (t ∙ ap Some (sym (is ∙ ap far_of t))) e acts few
+      go (Some f) t = pushed_far p q far w1 to h (t ∙ ap Some (sym (is ∙ ap (far_of n) t))) e acts few
       go None t =
-          let nowhere_is : far.element ≡ 2 ^ 64 - 1 = ap (λ (f : ConnectionEnd). f.element) (is ∙ ap far_of t) in
+          let nowhere_is : far.element ≡ n = ap (λ (f : ConnectionEnd). f.element) (is ∙ ap (far_of n) t) in
           let same : length w1.elements ≡ length w.elements = ap (λ (u : RunState). length u.elements) e in
           let none = acts_past w1 far.element (omega (arith, nowhere_is, same, short)) far.port p in
           pushed_unconnected p q far.element to.first to.count h t (acts.run_state ∙ sym none.0 ∙ e) (ap (λ (r : PortRange). r.count) (acts.outputs ∙ sym none.2))
@@ -135,14 +135,14 @@ module _ (net : Wiring) (w v : RunState) (at o : ℕ) where
           (inputs_are ∙ ap (λ (u : RunState). (element_at u far.element).inputs) (sym run_state)) (ap (λ (u : RunState). tries_at u far.element far.port) (sym run_state)) count_is first_is
 
   -- an input without a connection leads past all elements, where nothing is stored
-  pub reached_on : (p : Packet) (r : PullResult) (far : ConnectionEnd) (w1 : RunState) → 0 < w.left → far ≡ far_of (net.source at o) → length w.elements < 2 ^ 64 → w1 ≡ spent w → ReachesIn w1 v far p r → r.count < 65536
+  pub reached_on : (p : Packet) (r : PullResult) (far : ConnectionEnd) (w1 : RunState) (n : ℕ) → 0 < w.left → far ≡ far_of n (net.source at o) → length w.elements ≤ n → w1 ≡ spent w → ReachesIn w1 v far p r → r.count < 65536
       → Reached net w v at o p r
-  reached_on p r far w1 h is short e reach few = go (net.source at o) refl
+  reached_on p r far w1 n h is short e reach few = go (net.source at o) refl
     where
       go : (t : Option ConnectionEnd) → net.source at o ≡ t → Reached net w v at o p r
-      go (Some f) t = reached_far p r far w1 h (t ∙ ap Some (sym (is ∙ ap far_of t))) e reach few
+      go (Some f) t = reached_far p r far w1 h (t ∙ ap Some (sym (is ∙ ap (far_of n) t))) e reach few
       go None t =
-          let nowhere_is : far.element ≡ 2 ^ 64 - 1 = ap (λ (f : ConnectionEnd). f.element) (is ∙ ap far_of t) in
+          let nowhere_is : far.element ≡ n = ap (λ (f : ConnectionEnd). f.element) (is ∙ ap (far_of n) t) in
           let same : length w1.elements ≡ length w.elements = ap (λ (u : RunState). length u.elements) e in
           let gone = element_past w1 far.element (omega (arith, nowhere_is, same, short)) in
           let (quiet, run_state, at_is, inputs_are, count_is, first_is) = rw (gone, stored-blank) at reach.reached in

@@ -59,6 +59,11 @@ given_none m at v u b None f gave = rw f.1 refl
 given_none m at v u b (Some e) f gave = absurd (false≢true (sym gave ∙ f.0))
 
 -- a source emitted one more packet, or none
+-- a packet of a source leaves the net unchanged
+pub burst_net : (at : ℕ) (v w : Plant) (b : Bool) (o : Option Stored) → MatchOption o ((b ≡ false) × (w ≡ v)) (λ e. (b ≡ true) × (w ≡ sourced v at e)) → w.net ≡ v.net
+burst_net at v w b None h = ap (λ (p : Plant). p.net) h.1
+burst_net at v w b (Some e) h = ap (λ (p : Plant). p.net) h.1
+
 pub burst_more : (n m at : ℕ) (v u : Plant) (b : Bool) → n ≡ suc m → Emitted at v u b (emission (state_at v at)) → b ≡ true
     → bursts n at v ≡ record { plant = (bursts m at u).plant; packets = 1 + (bursts m at u).packets }
 burst_more n m at v u b h made gave = burst-next n m at v h ∙ given_one m at v u b (emission (state_at v at)) made gave

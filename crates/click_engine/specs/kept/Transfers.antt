@@ -3,7 +3,7 @@ use Rattle.std.specs.Prelude.{◌≡◌, ℕ, ◌+◌, ◌*◌, ◌<◌, ◌≤�
 use Rattle.click_classes.specs.Acts.{burst_of, emission, stored}
 use Rattle.click_classes.specs.declared.packet_effects.PortRange.{PortRange}
 use Rattle.click_packet.specs.Packet.{Packet}
-use Rattle.click_engine.specs.RunState.{Wiring, RunState, Acts, element_at, overrun, tries_at, with_state}
+use Rattle.click_engine.specs.RunState.{Wiring, RunState, Acts, but_last, element_at, overrun, tries_at, with_state}
 use Rattle.click_engine.specs.declared.run_state.ConnectionEnd.{ConnectionEnd}
 use Rattle.click_engine.specs.declared.run_state.Element.{Element}
 use Rattle.click_engine.specs.Run.{push, pull, sent, asked}
@@ -11,9 +11,9 @@ use Rattle.click_engine.specs.declared.transfers.PullResult.{PullResult}
 use Rattle.click_engine.specs.declared.transfer_stack.PushFrame.{PushFrame}
 use Rattle.click_engine.specs.Frames.{TransferStack}
 
--- a run state, by its elements, the crossings left and the overruns
+-- a run state, by its elements and the Idle after them, the crossings left and the overruns
 abbrev pub run_state_with : List Element → ℕ → ℕ → RunState
-run_state_with elements left lost = record { elements = elements; left = left; overruns = lost }
+run_state_with elements left lost = record { elements = but_last elements; left = left; overruns = lost }
 
 -- the run state after some steps for which the crossings were enough, or which needed one more
 abbrev pub run_state_after : Bool → List Element → ℕ → ℕ → RunState

@@ -2,9 +2,9 @@
 use Rattle.std.specs.Prelude.{◌≡◌, ℕ, List, [], ◌∷◌, length, slice_index_or, if◌then◌else◌}
 use Rattle.click_expand.specs.declared.flat.Connection.{Connection}
 use Rattle.click_ports.specs.declared.port.Port.{Port}
-use Rattle.click_ports.specs.Ports.{joined_port, joins, Has}
+use Rattle.click_ports.specs.Ports.{joined_port, joins, Has, port_index, first}
 use Rattle.click_ports.specs.kept.Passages.{opposite}
-use Rattle.click_ports.specs.kept.Wiring.{Wiring, port_index, first}
+use Rattle.click_ports.specs.kept.Wiring.{Wiring}
 
 -- the number of the port at the other end of a connection of the port
 abbrev pub far_end : List Connection → Port → Connection → ℕ

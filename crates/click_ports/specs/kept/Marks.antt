@@ -4,11 +4,11 @@ use Rattle.click_classes.specs.declared.ports.Code.{Code}
 use Rattle.click_classes.specs.declared.ports.Side.{Side}
 use Rattle.click_classes.specs.declared.ports.Side.TheVariants.{Input, Output}
 use Rattle.click_ports.specs.declared.port.Port.{Port}
-use Rattle.click_ports.specs.Ports.{Has}
+use Rattle.click_ports.specs.Ports.{Has, port_index, first}
 use Rattle.click_ports.specs.Links.{code_at}
 use Rattle.click_ports.specs.Kinds.{Meets}
 use Rattle.click_ports.specs.kept.Search.{IsMarked, code_of}
-use Rattle.click_ports.specs.kept.Wiring.{Wiring, port_index, first}
+use Rattle.click_ports.specs.kept.Wiring.{Wiring}
 
 -- pull inputs and push outputs
 abbrev pub is_single : Side → Bool → Bool

@@ -7,9 +7,9 @@ use Rattle.click_classes.specs.Ports.{passes}
 use Rattle.click_expand.specs.declared.flat.Connection.{Connection}
 use Rattle.click_ports.specs.declared.port.Port.{Port}
 use Rattle.click_ports.specs.declared.shape.Shape.{Shape}
-use Rattle.click_ports.specs.Ports.{Has}
+use Rattle.click_ports.specs.Ports.{Has, port_index, first}
 use Rattle.click_ports.specs.Links.{class_at, IsAgnostic}
-use Rattle.click_ports.specs.kept.Wiring.{Wiring, port_index, first}
+use Rattle.click_ports.specs.kept.Wiring.{Wiring}
 
 abbrev pub opposite : Side → Side
 opposite Input = Output

@@ -1,12 +1,12 @@
 -- The value that contracts see of a layout, and the numbers of its ports.
-use Rattle.std.specs.Prelude.{◌≡◌, ℕ, suc, zero, ◌+◌, ◌<◌, ◌≤◌, List, length, slice_get, All, Some}
+use Rattle.std.specs.Prelude.{◌≡◌, ℕ, ◌<◌, ◌≤◌, List, length, slice_get, All, Some}
 use Rattle.click_classes.specs.declared.ports.Side.{Side}
 use Rattle.click_classes.specs.declared.ports.Side.TheVariants.{Input, Output}
 use Rattle.click_expand.specs.declared.flat.Connection.{Connection}
 use Rattle.click_ports.specs.declared.port.Port.{Port}
 use Rattle.click_ports.specs.declared.shape.Shape.{Shape}
 use Rattle.click_ports.specs.declared.numbering.Block.{Block}
-use Rattle.click_ports.specs.Ports.{used, Has}
+use Rattle.click_ports.specs.Ports.{used, Has, first, port_index}
 
 -- elements and connections
 pub record Wiring : Type 0 where
@@ -16,20 +16,6 @@ pub record Wiring : Type 0 where
 -- each connection is between two of the first n elements
 abbrev pub AreWithin : ℕ → List Connection → Type 0
 AreWithin n cs = All (λ (c : Connection). (c.from < n) × (c.to < n)) cs
-
--- the number of the element's first port; all ports are numbered element by element, inputs before
--- outputs
-abbrev pub first : List Connection → ℕ → ℕ
-first cs zero = 0
-first cs (suc e) = first cs e + (used cs e Input + used cs e Output)
-
--- the number of ports of the element that come before those of the side
-abbrev pub ahead : List Connection → ℕ → Side → ℕ
-ahead cs e Input = 0
-ahead cs e Output = used cs e Input
-
-abbrev pub port_index : List Connection → Port → ℕ
-port_index cs p = first cs p.element + ahead cs p.element p.side + p.number
 
 abbrev pub block_of : List Connection → ℕ → Block
 block_of cs e = record { first = first cs e; inputs = used cs e Input; outputs = used cs e Output }

@@ -1,6 +1,7 @@
-use Rattle.std.proofs.Common.{◌≡◌, map, take}
-use Rattle.click_engine.specs.kept.Tables.{first_far, rows_of}
+use Rattle.std.proofs.Common.{◌≡◌, map}
+use Rattle.std.specs.List.{range_with_len}
+use Rattle.click_engine.specs.kept.Tables.{first_at}
 use Rattle.click_engine.proofs.adjacency.first_ends.Given as goal
 
-abbrev pub invariant-loop-row : goal.invariant-loop-row
-invariant-loop-row l = l.ports.items ≡ map first_far (rows_of (take l.row-index l.rows))
+abbrev pub invariant-loop-at : goal.invariant-loop-at
+invariant-loop-at l = l.ends.items ≡ map (first_at l.net l.side) (range_with_len 0 l.at)

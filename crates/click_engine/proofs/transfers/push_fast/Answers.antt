@@ -12,4 +12,4 @@ pub returns-clause-along : goal.returns-clause-along
 returns-clause-along c = λ at output joined.
     let given = c.as_mut_slice-elements.ensures.value in
     let kept = with_items_is c.args.run_memory.now.elements c.push_on.new.elements (c.push_on.auto.elements ∙ ap length given ∙ sym c.args.run_memory.now.elements.ok.0) in
-    rw (c.overrun.ensures, kept) (rw (c.if-push_on.false, given) at (c.push_on.ensures.along at output c.args.run_memory.now.overruns joined))
+    rw (c.overrun.ensures.overrun, kept) (rw (c.if-push_on.false, given) at (c.push_on.ensures.along at output c.args.run_memory.now.overruns joined))

@@ -3,7 +3,7 @@ use Rattle.click_classes.specs.declared.ports.Side.TheVariants.{Input}
 use Rattle.click_ports.specs.declared.port.Port.{Port}
 use Rattle.click_ports.specs.Kinds.{IsMixed}
 use Rattle.click_ports.specs.Breaches.{IsFirstBreach}
-use Rattle.click_ports.specs.kept.Wiring.{port_index, first}
+use Rattle.click_ports.specs.Ports.{port_index, first}
 use Rattle.click_ports.proofs.InnerLinks.{read-place}
 use Rattle.click_ports.proofs.FirstBreach.{first-mixed, next-port, all-ports, mark-read}
 use Rattle.click_ports.proofs.breaches.first_mixed.Goals as goal

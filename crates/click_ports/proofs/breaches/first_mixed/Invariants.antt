@@ -1,8 +1,7 @@
 use Rattle.std.proofs.Common.{◌<◌}
 use Rattle.click_ports.specs.declared.port.Port.{Port}
-use Rattle.click_ports.specs.Ports.{Has}
+use Rattle.click_ports.specs.Ports.{Has, port_index}
 use Rattle.click_ports.specs.Kinds.{IsMixed}
-use Rattle.click_ports.specs.kept.Wiring.{port_index}
 use Rattle.click_ports.proofs.breaches.first_mixed.Given as goal
 
 abbrev pub invariant-loop-number : goal.invariant-loop-number

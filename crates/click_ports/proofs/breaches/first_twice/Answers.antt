@@ -3,8 +3,7 @@ use Rattle.click_classes.specs.declared.ports.Side.TheVariants.{Input}
 use Rattle.click_ports.specs.declared.port.Port.{Port}
 use Rattle.click_ports.specs.Kinds.{IsSingle}
 use Rattle.click_ports.specs.Breaches.{IsFirstBreach}
-use Rattle.click_ports.specs.Ports.{uses}
-use Rattle.click_ports.specs.kept.Wiring.{port_index}
+use Rattle.click_ports.specs.Ports.{uses, port_index}
 use Rattle.click_ports.proofs.InnerLinks.{read-place}
 use Rattle.click_ports.proofs.FirstBreach.{first-twice, all-single, next-port, all-ports, uses-read, single-is, is-single}
 use Rattle.click_ports.proofs.breaches.first_twice.Goals as goal

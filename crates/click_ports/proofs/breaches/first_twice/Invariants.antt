@@ -1,8 +1,7 @@
 use Rattle.std.proofs.Common.{◌<◌}
 use Rattle.click_ports.specs.declared.port.Port.{Port}
-use Rattle.click_ports.specs.Ports.{Has, uses}
+use Rattle.click_ports.specs.Ports.{Has, uses, port_index}
 use Rattle.click_ports.specs.Kinds.{IsSingle}
-use Rattle.click_ports.specs.kept.Wiring.{port_index}
 use Rattle.click_ports.proofs.breaches.first_twice.Given as goal
 
 abbrev pub invariant-loop-number : goal.invariant-loop-number

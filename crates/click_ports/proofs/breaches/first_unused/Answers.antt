@@ -2,8 +2,7 @@ use Rattle.std.proofs.Common.{◌≡◌, ◌<◌, length, get_or, ◌∙◌, sym
 use Rattle.click_classes.specs.declared.ports.Side.TheVariants.{Input}
 use Rattle.click_ports.specs.declared.port.Port.{Port}
 use Rattle.click_ports.specs.Breaches.{IsFirstBreach}
-use Rattle.click_ports.specs.Ports.{uses}
-use Rattle.click_ports.specs.kept.Wiring.{port_index}
+use Rattle.click_ports.specs.Ports.{uses, port_index}
 use Rattle.click_ports.proofs.InnerLinks.{read-place}
 use Rattle.click_ports.proofs.FirstBreach.{first-unused, next-port, all-ports, uses-read}
 use Rattle.click_ports.proofs.breaches.first_unused.Goals as goal

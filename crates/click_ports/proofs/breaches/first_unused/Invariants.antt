@@ -1,7 +1,6 @@
 use Rattle.std.proofs.Common.{◌<◌}
 use Rattle.click_ports.specs.declared.port.Port.{Port}
-use Rattle.click_ports.specs.Ports.{Has, uses}
-use Rattle.click_ports.specs.kept.Wiring.{port_index}
+use Rattle.click_ports.specs.Ports.{Has, uses, port_index}
 use Rattle.click_ports.proofs.breaches.first_unused.Given as goal
 
 abbrev pub invariant-loop-number : goal.invariant-loop-number

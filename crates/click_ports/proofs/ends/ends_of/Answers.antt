@@ -2,9 +2,8 @@ use Rattle.std.proofs.Common.{◌≡◌, ℕ, ◌<◌, List, [], take, replicate
 use Rattle.std.proofs.lemmas.List.{take_more, take_all}
 use Rattle.click_classes.specs.declared.ports.Side.TheVariants.{Input, Output}
 use Rattle.click_expand.specs.declared.flat.Connection.{Connection}
-use Rattle.click_ports.specs.Ports.{joined_port}
+use Rattle.click_ports.specs.Ports.{joined_port, port_index}
 use Rattle.click_ports.specs.kept.Ends.{far_ends}
-use Rattle.click_ports.specs.kept.Wiring.{port_index}
 use Rattle.click_ports.proofs.FarEnds.{AreEndsOf, ends-more, ends-none, end-has}
 use Rattle.click_ports.proofs.ends.ends_of.Goals as goal
 

@@ -1,7 +1,7 @@
 use Rattle.std.proofs.Common.{◌≡◌, length, get_or, sym, subst, arith}
 use Rattle.click_classes.specs.declared.ports.Side.TheVariants.{Input}
 use Rattle.click_ports.specs.declared.port.Port.{Port}
-use Rattle.click_ports.specs.kept.Wiring.{first}
+use Rattle.click_ports.specs.Ports.{first}
 use Rattle.click_ports.proofs.PortUses.{has-within}
 use Rattle.click_ports.proofs.InnerLinks.{AreRowsBelow, rows-none, rows-more, rows-all, read-place}
 use Rattle.click_ports.proofs.internal_links.all_internal_links.Goals as goal

@@ -1,7 +1,7 @@
 use Rattle.std.proofs.Common.{◌≡◌, length, get_or, sym, subst, arith}
 use Rattle.click_classes.specs.declared.ports.Side.TheVariants.{Input}
 use Rattle.click_ports.specs.declared.port.Port.{Port}
-use Rattle.click_ports.specs.kept.Wiring.{first}
+use Rattle.click_ports.specs.Ports.{first}
 use Rattle.click_ports.proofs.PortUses.{has-within}
 use Rattle.click_ports.proofs.InnerLinks.{AreCodesBelow, codes-none, codes-more, codes-all, read-place}
 use Rattle.click_ports.proofs.kinds.codes_of.Goals as goal

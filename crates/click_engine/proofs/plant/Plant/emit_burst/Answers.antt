@@ -1,9 +1,13 @@
-use Rattle.std.proofs.Common.{◌+◌, ◌-◌, ◌∙◌, ap, sym, arith}
+use Rattle.std.proofs.Common.{length, ◌+◌, ◌-◌, ◌∙◌, ap, sym, arith}
 use Rattle.click_classes.specs.Acts.{burst_of}
+use Rattle.click_ports.specs.Net.{Net}
 use Rattle.click_engine.specs.Plant.{Plant}
 use Rattle.click_engine.specs.Rounds.{RoundResult, bursts, state_at}
-use Rattle.click_engine.proofs.OfRuns.RoundTasks.{burst_more, burst_over, bursts-zero}
+use Rattle.click_engine.proofs.OfRuns.RoundTasks.{burst_more, burst_net, burst_over, bursts-zero}
 use Rattle.click_engine.proofs.plant.Plant.emit_burst.Goals as goal
+
+pub emit-requires : goal.emit-requires
+emit-requires c = omega (arith, c.requires, ap (λ (n : Net). length n.shapes) c.loop-packet.invariant.net)
 
 pub returns-then-not-emit-clause-plant : goal.returns-then-not-emit-clause-plant
 returns-then-not-emit-clause-plant c =
@@ -27,6 +31,7 @@ loop-packet-preserved c =
       plant = sym (ap (λ (w : RoundResult). w.plant) e) ∙ c.loop-packet.invariant.plant;
       packets = omega (arith, ap (λ (w : RoundResult). w.packets) e, c.loop-packet.invariant.packets);
       few = omega (arith, c.loop-packet.invariant.few);
+      net = burst_net c.args.at c.loop-packet.self c.emit.new.self c.emit.result _ c.emit.ensures ∙ c.loop-packet.invariant.net;
     }
 
 pub returns-clause-plant : goal.returns-clause-plant

@@ -8,4 +8,5 @@ invariant-loop-packet l = record {
   plant : (bursts (l.most - l._packet) l.at l.self).plant ≡ (bursts l.most l.at l.fn.self).plant;
   packets : l.packets + (bursts (l.most - l._packet) l.at l.self).packets ≡ (bursts l.most l.at l.fn.self).packets;
   few : l.packets ≡ l._packet;
+  net : l.self.net ≡ l.fn.self.net;
 }

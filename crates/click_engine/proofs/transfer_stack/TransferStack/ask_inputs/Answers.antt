@@ -9,13 +9,13 @@ pub returns-then-given-gt0-clause-follows : goal.returns-then-given-gt0-clause-f
 returns-then-given-gt0-clause-follows c =
     let m = c.self.inside in
     asked_sends _ m.sending m.push_frames.items m.asks.items m.answered m.room c.self.view_is c.requires.done (omega (arith, c.self.invariant.0, m.push_frames.ok.0)) (omega (arith, c.self.invariant.1, m.push_frames.ok.0))
-    _ _ _ _ _ _ _ c.ask_until_answer-further.ensures.asked c.requires.room _ c.if-further.true _ c.gives-given.result.copies c.gives-given.result.answers c.gives-given.ensures (omega arith) refl refl refl
+    _ _ _ _ _ _ _ c.ask_until_answer-further.ensures.asked c.requires.room _ c.if-further.true _ c.gives-given.result.copies c.gives-given.result.answers c.gives-given.ensures.gives (omega arith) refl refl refl
 
 pub returns-then-further-clause-follows : goal.returns-then-further-clause-follows
 returns-then-further-clause-follows c =
     let m = c.self.inside in
     asked_gives _ m.sending m.push_frames.items m.asks.items m.answered m.room c.self.view_is c.requires.done (omega (arith, c.self.invariant.0, m.push_frames.ok.0)) (omega (arith, c.self.invariant.1, m.push_frames.ok.0))
-    _ _ _ _ _ _ _ c.ask_until_answer-further.ensures.asked c.requires.room _ c.if-further.true _ c.gives-given.result.copies c.gives-given.result.answers c.gives-given.ensures (omega arith)
+    _ _ _ _ _ _ _ c.ask_until_answer-further.ensures.asked c.requires.room _ c.if-further.true _ c.gives-given.result.copies c.gives-given.result.answers c.gives-given.ensures.gives (omega arith)
 
 pub returns-then-further-gt0-clause-follows : goal.returns-then-further-gt0-clause-follows
 returns-then-further-gt0-clause-follows c =

@@ -34,11 +34,11 @@ turn_asking-requires-clause-top c =
     read_top _ m.sending m.push_frames.items m.asks.items m.answered m.room c.self.view_is c.requires.none (omega (arith, c.self.invariant.0, m.push_frames.ok.0)) c.len-top.result _ (c.len-top.ensures ∙ m.asks.ok.0) c.index.ensures c.requires.some
     ∙ ap (λ y. asks_of y ∷ []) c.in-Tries.is
 
-pub returns-then-self : goal.returns-then-self
-returns-then-self c = c.turn_answered.ensures (wiring_of c.args.adjacency.now)
+pub returns-then-self-clause-turn : goal.returns-then-self-clause-turn
+returns-then-self-clause-turn c = c.turn_answered.ensures.turn (wiring_of c.args.adjacency.now)
 
-pub returns-then-count-eq0 : goal.returns-then-count-eq0
-returns-then-count-eq0 c =
+pub returns-then-count-eq0-clause-turn : goal.returns-then-count-eq0-clause-turn
+returns-then-count-eq0-clause-turn c =
     let m = c.self.inside in
     let top = read_top _ m.sending m.push_frames.items m.asks.items m.answered m.room c.self.view_is c.requires.none (omega (arith, c.self.invariant.0, m.push_frames.ok.0)) c.len-top.result _ (c.len-top.ensures ∙ m.asks.ok.0) c.index.ensures c.requires.some
     ∙ ap (λ y. asks_of y ∷ []) c.in-Tries.is in

@@ -1,5 +1,5 @@
 use Rattle.std.proofs.Common.{◌≡◌, ◌+◌, ◌<◌, length, arith}
-use Rattle.click_ports.specs.kept.Wiring.{port_index}
+use Rattle.click_ports.specs.Ports.{port_index}
 use Rattle.click_ports.specs.kept.LaidOut.{IsLaidOut}
 use Rattle.click_ports.proofs.PortUses.{has-within}
 use Rattle.click_ports.proofs.PortNumbers.{laid-seen, number-read}
