@@ -8,6 +8,7 @@ use Rattle.std.specs.BTreeSet.{contains, Updates}
 use Rattle.std.specs.Cmp.{tied_then}
 use Rattle.std.specs.Cmp.Lexicographic.{slice_cmp}
 use Rattle.std.specs.Ordering.{is_eq, nat_cmp, ordering_then}
+use Rattle.click_classes.specs.declared.routes.Row.{Row}
 use Rattle.click_classes.specs.declared.values.prefix.Prefix.{Prefix}
 use Rattle.click_classes.specs.Entries.{same_prefix, has_prefix}
 use Rattle.click_classes.specs.declared.values.entry.Entry.{Entry}
@@ -16,6 +17,9 @@ use Rattle.click_classes.specs.Ports.{outputs_for}
 -- the value of a read after the end
 abbrev pub blank : Entry
 blank = record { prefix = record { network = []; len = 0 }; gateway = None; output = 0 }
+
+abbrev pub blank_row : Row
+blank_row = record { mask = 0; network = 0; entry = blank }
 
 -- one more entry
 pub outputs_more : (es : List Entry) (d : Entry) (i most new all : ℕ) → i < length es → new ≡ max most ((get_or es i d).output + 1) → max most (outputs_for (drop i es)) ≡ all → max new (outputs_for (drop (i + 1) es)) ≡ all

@@ -1,5 +1,5 @@
 -- The prepared form of a table: its entries with masks and words, the longest prefixes first.
-use Rattle.std.specs.Prelude.{◌≡◌, ℕ, zero, suc, ◌<◌, ◌≤◌, ◌==◌, List, [], ◌∷◌, ◌++◌, length, Bool, Option, Some, None, bit_and, slice_index, if◌then◌else◌}
+use Rattle.std.specs.Prelude.{◌≡◌, ℕ, zero, suc, ◌<◌, ◌≤◌, ◌-◌, ◌^◌, ◌==◌, List, [], ◌∷◌, ◌++◌, length, Bool, Option, Some, None, bit_and, slice_index, if◌then◌else◌}
 use Rattle.std.specs.List.{filter}
 use Rattle.std.specs.Int.{w32, from_be_bytes}
 use Rattle.click_classes.specs.declared.values.entry.Entry.{Entry}
@@ -33,9 +33,13 @@ entry_of r = r.entry
 abbrev pub fits : Row → ℕ → Bool
 fits r w = bit_and w r.mask == r.network
 
--- the address has the bits of the row exactly if it has the prefix of the row's entry
+-- the address has the bits of the row exactly if it has the prefix of the row's entry, and the mask
+-- is of the first bits
 pub record IsReady (r : Row) : Type 0 where
   pub fits_covers : (a : List ℕ) → IsAddress a → fits r (word a) ≡ covers r.entry.prefix a
+  pub rest : ℕ
+  pub rest_within : rest ≤ 32
+  pub mask_is : r.mask ≡ 2 ^ 32 - 2 ^ rest
 
 -- the entry of the first row whose bits the address has
 abbrev pub first_found : List Row → ℕ → Option Entry

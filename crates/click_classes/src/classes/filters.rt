@@ -35,11 +35,13 @@ fn rules_of(alloc: Global, form: RuleForm, arguments: &Arguments) -> Result<Rule
 
 /// `IPFilter(ACTION PATTERN, ..)` lets packets through by rules. It is in the package `gateway`.
 ///
-/// - Arguments: 1 to 256 rules. A rule is an action and a pattern. An action is `allow` (output 0),
-///   `deny` or `drop` (no output), or the number of an output from 0 to 255. A pattern is a test of
-///   the IP header or of the header behind it, such as `src 10.0.0.0/8`, `tcp dst port 80` or
-///   `icmp type echo`. Tests are joined by `and`, `or`, `not` and parentheses. All tests are in
-///   [LANGUAGE](LANGUAGE.md), "Patterns of packets". All rules together have at most 4,096 tests.
+/// - Arguments: 1 to 256 rules. A rule is an action and a pattern. All rules together have at most
+///   4,096 tests.
+/// - An action is `allow` (output 0), `deny` or `drop` (no output), or the number of an output from
+///   0 to 255.
+/// - A pattern is a test of the IP header or of the header behind it, such as `src 10.0.0.0/8`,
+///   `tcp dst port 80` or `icmp type echo`. Tests are joined by `and`, `or`, `not` and parentheses.
+///   [LANGUAGE](LANGUAGE.md), "Patterns of packets", has all tests.
 /// - Ports: one push input. As many push outputs as the greatest output that an action names, and
 ///   one; none if no action names one.
 /// - Packets begin with an IP header, and should come from a CheckIPHeader. The first rule whose

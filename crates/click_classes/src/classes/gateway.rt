@@ -47,9 +47,12 @@ fn stations(
 /// - Ports: one agnostic input; one agnostic output, and optionally a push output 1.
 /// - Packets are Ethernet frames. An ARP request for an address that is in a prefix of a station
 ///   becomes the reply. That is a frame of 42 bytes from the station's Ethernet address to the
-///   sender. If several stations have the address, the first one replies. All other packets are
-///   pushed to output 1 if that is connected, and are dropped otherwise. If such a packet was
-///   pulled, the pull returns no packet.
+///   sender, and it keeps the paint and the destination annotation. If several stations have the
+///   address, the first one replies. All other packets are pushed to output 1 if that is connected,
+///   and are dropped otherwise. If such a packet was pulled, the pull returns no packet.
+/// - An ARP request has at least 42 bytes, the type 0806, hardware type 1, protocol type 0800,
+///   lengths 6 and 4, and operation 1. Its other fields, except the target's IP address, are not
+///   tested.
 /// - Handlers: none.
 ///
 /// ```click
@@ -107,11 +110,14 @@ pub fn answer_arp(stations: &[Station], packet: &mut Packet) -> Verdict
 /// - Arguments: none.
 /// - Ports: one agnostic input; one agnostic output, and optionally a push output 1.
 /// - Packets begin with an IP header. An echo request becomes its reply, with a new header of 20
-///   bytes and a time to live of 64. Its destination annotation is the address of the host that
-///   asked. The bytes after the datagram are removed. The request must have a valid header without
-///   options, whose addresses can each be one host's, must not be fragmented, and its ICMP sum must
-///   be right. All other packets are pushed to output 1 if that is connected, and are dropped
+///   bytes and a time to live of 64. The reply has the request's type of service, including ECN
+///   ([LIMITS](LIMITS.md#what-is-missing)), its identification and its paint, and no flags. Its
+///   destination annotation is the address of the host that asked. The bytes after the datagram are
+///   removed. All other packets are pushed to output 1 if that is connected, and are dropped
 ///   otherwise. If such a packet was pulled, the pull returns no packet.
+/// - An echo request has a valid header without options, is not fragmented, and has at least 8 bytes
+///   of ICMP with type 8, code 0 and a right sum. Each of its addresses can be one host's
+///   ([ARPQuerier](#arpquerier)). The destination need not be an address of the router.
 /// - A request with IP options is no such request, because its reply would have to reverse a source
 ///   route.
 /// - Handlers: none.
@@ -188,14 +194,17 @@ fn error_kind(bytes: &[u8]) -> Result<u8, ArgFault>
 ///   (5), `timeexceeded` (11) and `parameterproblem` (12).
 /// - Ports: one agnostic input, one agnostic output.
 /// - A packet becomes the report about it, a datagram of at most 576 bytes to its source. It has
-///   precedence 6, the packet's type of service and a time to live of 64. The source becomes the
-///   destination annotation. A redirect names the packet's destination annotation as the gateway. A
-///   report of type 3 and code 4 (fragmentation needed) has the MTU (RFC 1191). All other reports
-///   have zeros in these four bytes, so a parameter problem points to byte 0.
+///   precedence 6, the five low bits of the packet's type of service, including ECN
+///   ([LIMITS](LIMITS.md#what-is-missing)), and a time to live of 64. Identification and flags are
+///   0. The report quotes no padding. The paint stays, and the source becomes the destination
+///   annotation. A redirect names the packet's destination annotation as the gateway. A report of
+///   type 3 and code 4 (fragmentation needed) has the MTU (RFC 1191). All other reports have zeros
+///   in these four bytes, so a parameter problem points to byte 0.
 /// - No report is made about a packet with an invalid header, about a later fragment or about an
-///   ICMP error. The same holds for a packet from or to an address that cannot be one host's. Such
-///   packets are dropped. A packet does not show that it came in a broadcast frame: a Classifier
-///   finds these (`0/01%01`).
+///   ICMP error (type 3, 4, 5, 11 or 12). The same holds for an ICMP packet without a byte behind
+///   its header, and for a packet from or to an address that cannot be one host's
+///   ([ARPQuerier](#arpquerier)). Such packets are dropped. A packet does not show that it came in a
+///   broadcast frame: a Classifier finds these (`0/01%01`).
 /// - Handlers: none.
 ///
 /// ```click

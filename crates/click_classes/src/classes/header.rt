@@ -59,9 +59,11 @@ pub fn refused(
 /// - Arguments: ADDRESSES, up to 64 addresses with spaces between them; default none.
 /// - Ports: one agnostic input; one agnostic output, and optionally a push output 1.
 /// - A packet passes if its header is valid and its source is none of ADDRESSES. A valid header
-///   begins at the first byte, has version 4, fits the packet, and sums to ffff. Other packets are
-///   pushed to output 1 if that is connected, and are dropped otherwise. If such a packet was
-///   pulled, the pull returns no packet.
+///   begins at the first byte, has version 4 and at least 20 bytes, and sums to ffff. The total
+///   length that it states is at least that of the header and at most that of the packet. Other
+///   packets are pushed to output 1 if that is connected, and are dropped otherwise. If such a
+///   packet was pulled, the pull returns no packet.
+/// - Bytes behind the total length (padding) stay in the packet.
 /// - Handlers: none.
 ///
 /// ```click
@@ -107,9 +109,12 @@ pub fn make_check_ip_header(alloc: Global, arguments: &Arguments) -> Result<Stat
 ///
 /// - Arguments: none.
 /// - Ports: one agnostic input; one agnostic output, and optionally a push output 1.
-/// - The time to live of the packet decreases by one, and its checksum is updated. A packet without
-///   a complete header, or with a time to live of 0 or 1, is unchanged. It is pushed to output 1 if
-///   that is connected, and is dropped otherwise. If it was pulled, the pull returns no packet.
+/// - The time to live of the packet decreases by one. The checksum is computed from scratch, so a
+///   wrong one becomes right. A packet without a complete header, or with a time to live of 0 or 1,
+///   is unchanged. It is pushed to output 1 if that is connected, and is dropped otherwise. If it
+///   was pulled, the pull returns no packet.
+/// - A header is complete if its first byte states a length of at least 20 bytes, and the packet has
+///   as many. Its version, checksum and total length are not tested.
 /// - Handlers: none.
 ///
 /// ```click

@@ -16,8 +16,8 @@ use std::alloc::Global;
 ///   is an address, and OUTPUT a number from 0 to 255.
 /// - Ports: one push input; push outputs, at least the greatest OUTPUT + 1 and at most 256.
 /// - The entry of a destination is the one with the longest prefix that contains it. The packet
-///   goes to the OUTPUT of its entry, and a GATEWAY becomes its destination. A packet without an
-///   entry is dropped.
+///   goes to the OUTPUT of its entry, and a GATEWAY becomes its destination, even 0.0.0.0. A packet
+///   without an entry is dropped.
 /// - Read handlers: `lookup`, which takes an address (not an address). It returns the output of the
 ///   address's entry, then a space and the gateway if the entry has one. It returns -1 without an
 ///   entry.

@@ -31,34 +31,43 @@ const NOWHERE: PortRange = PortRange { first: 0, count: 0 };
 /// - Arguments: IP and ETHER, the addresses of the station that sends the queries.
 /// - Ports: two push inputs; one push output, and optionally a second.
 /// - Input 0 takes IP packets. A packet leaves at output 0 after an Ethernet header of type 0800 to
-///   the Ethernet address of its destination annotation. If that is not known, the packet waits,
-///   and an ARP query leaves at output 1, or at output 0 if that is the only one. One packet waits
-///   for each address; the next one replaces it, and each repeats the query.
-/// - The limited broadcast address and multicast addresses have their Ethernet addresses at once
-///   (RFC 1112, section 6.4).
+///   the Ethernet address of its destination annotation. The limited broadcast address and multicast
+///   addresses have their Ethernet addresses at once (RFC 1112, section 6.4).
+/// - If the Ethernet address is not known, the packet waits. An ARP query leaves at output 1, or at
+///   output 0 if that is the only one. The query has the paint and the destination annotation of the
+///   packet. One packet waits for each address. The next one replaces it, and each repeats the
+///   query.
 /// - Input 1 takes ARP packets in Ethernet frames. If the sender of a request or a reply is in the
 ///   table, its Ethernet address is known from then on, and the packet that waits for it leaves. A
 ///   sender that claims the Ethernet address of a group is not believed (RFC 1812, section 3.3.2).
-///   All other packets have no effect. No ARP packet leaves the element.
+///   One that claims 0:0:0:0:0:0 is believed. All other packets have no effect. No ARP packet leaves
+///   the element. A request has the fields that an [ARPResponder](#arpresponder) tests, and a reply
+///   has them with operation 2. Target addresses are not tested.
 /// - The table has 256 addresses. A packet for a new address is dropped if the table is full, or if
-///   the address cannot be one host's. So is one that another replaces. A packet of more than 1,586
-///   bytes is dropped at once: it causes no query, and replaces no packet. All these are counted.
+///   the address cannot be one host's. So is one that another replaces.
+/// - An address can be one host's if its first byte is 1 to 223, but not 127. So the broadcast
+///   address of a network can be one host's.
+/// - A packet of more than 1,586 bytes is dropped at once: it causes no query, and replaces no
+///   packet.
 /// - There is no clock, so an entry does not age. It changes when its host sends an ARP packet, and
 ///   `expire` removes entries that are no longer used. An entry is used by each packet to its
 ///   address that leaves or waits, by each ARP packet from it, and by `insert`. So the entry of a
 ///   host that never answers stays as long as packets to it arrive; `delete` removes it.
 /// - A swap takes over the table, the packets that wait and the counts, also if IP or ETHER
 ///   differs.
-/// - Read handlers: `table`, `count` and `drops`. `table` has a line for each entry, with the
-///   address and the Ethernet address, or `-` if that is not known. `count` is the number of
-///   entries, and `drops` that of dropped packets, at most 2^64 - 1.
-/// - Write handlers: `insert`, an address and an Ethernet address, which is known from then on (not
-///   an address, out of range). An address that cannot be one host's is out of range, and so is an
-///   Ethernet address that is zero or a group's. If the table is full, so is an address that has no
-///   entry. `delete`, an address, removes its entry (not an address). `clear` removes all entries.
-///   `expire`, a number N, removes each entry after whose last use N or more packets arrived at
-///   input 0 (not a number, out of range). `reset_counts` sets `drops` to 0. A packet that waits
-///   for an entry that is removed or overwritten is dropped.
+/// - Read handlers: `table`, `count` and `drops`. `table` has a line for each entry, the oldest
+///   first, with the address and the Ethernet address, or `-` if that is not known. `count` is the
+///   number of entries, and `drops` that of dropped packets, at most 2^64 - 1.
+/// - Write handlers: `insert`, `delete`, `clear`, `expire` and `reset_counts`.
+/// - `insert` takes an address and an Ethernet address, which is known from then on (not an address,
+///   out of range). An address that cannot be one host's is out of range, and so is an Ethernet
+///   address that is zero or a group's. If the table is full, so is an address that has no entry.
+/// - `delete` takes an address and removes its entry, if there is one (not an address). `clear`
+///   removes all entries. `expire` takes a number N. It removes each entry after whose last use N or
+///   more packets arrived at input 0 (not a number; above 2^64 - 1, out of range). `reset_counts`
+///   sets `drops` to 0.
+/// - A packet that waits for an entry that is removed or overwritten is dropped. Each dropped packet
+///   is counted.
 ///
 /// ```click
 /// require(gateway);

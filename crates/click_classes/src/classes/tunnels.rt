@@ -21,12 +21,11 @@ use click_packet::Packet;
 ///
 /// - Arguments: none.
 /// - Ports: one agnostic input, one agnostic output.
-/// - Packets begin with an IP header of at least 20 bytes, whose length its first byte states. The
-///   source address and the destination address are exchanged. The new destination becomes the
-///   destination annotation. If the packet is TCP or UDP, is no later fragment, and has at least
-///   four bytes after its header, the two ports are exchanged. No checksum changes, because the
-///   order of words does not change a sum. A packet without such a header is dropped. If it was
-///   pulled, the pull returns no packet.
+/// - Packets begin with a complete IP header ([DecIPTTL](#decipttl)). The source address and the
+///   destination address are exchanged. The new destination becomes the destination annotation. If
+///   the packet is TCP or UDP, is no later fragment, and has at least four bytes after its header,
+///   the two ports are exchanged. No checksum changes, because the order of words does not change a
+///   sum. A packet without such a header is dropped. If it was pulled, the pull returns no packet.
 /// - Handlers: none.
 ///
 /// ```click
@@ -69,9 +68,9 @@ pub fn turn_datagram(packet: &mut Packet) -> Verdict
 ///
 /// - Arguments: none.
 /// - Ports: one agnostic input, one agnostic output.
-/// - Packets begin with an IP header of at least 20 bytes, whose length its first byte states. The
-///   checksum (bytes 10 and 11) becomes that of the header with its options. A packet without such
-///   a header is dropped. If it was pulled, the pull returns no packet.
+/// - Packets begin with a complete IP header ([DecIPTTL](#decipttl)). The checksum (bytes 10 and 11)
+///   becomes that of the header with its options. A packet without such a header is dropped. If it
+///   was pulled, the pull returns no packet.
 /// - Handlers: none.
 ///
 /// ```click
@@ -113,9 +112,9 @@ pub fn seal_header(packet: &mut Packet) -> Verdict
 ///
 /// - Arguments: none.
 /// - Ports: one agnostic input, one agnostic output.
-/// - Packets begin with an IP header of at least 20 bytes, whose length its first byte states. The
-///   header is removed, with its options. A packet without such a header is dropped. If it was
-///   pulled, the pull returns no packet.
+/// - Packets begin with a complete IP header ([DecIPTTL](#decipttl)). The header is removed, with
+///   its options. A packet without such a header is dropped. If it was pulled, the pull returns no
+///   packet.
 /// - Handlers: none.
 ///
 /// ```click
