@@ -51,21 +51,23 @@ elementclass Own { $ip |
 // time to live decremented. Reports of errors leave at output 1. $net is the network from which
 // the datagrams came, in hexadecimal digits.
 elementclass Forward { $ip, $net, $colour |
-  input -> back :: PaintTee($colour) -> ttl :: DecIPTTL -> fits :: CheckLength(1500) -> output;
+  input -> ttl :: DecIPTTL -> fits :: CheckLength(1500) -> back :: PaintTee($colour) -> output;
 
-  // A datagram that leaves by the Ethernet from which it came: its sender can use the next hop
-  // directly. The report may be made only if the sender is in that network, and if the header has
-  // no source route (RFC 1812, section 5.2.7.2). Here it may have no options at all.
-  back [1] -> Classifier(0/45 12/$net) -> ICMPError($ip, redirect, 1) -> [1] output;
   ttl [1] -> ICMPError($ip, timeexceeded) -> [1] output;
 
   // A datagram of more than 1,500 bytes is not fragmented. Its sender has to send shorter ones.
   fits [1] -> ICMPError($ip, unreachable, 4, 1500) -> [1] output;
+
+  // A datagram that leaves by the Ethernet from which it came: its sender can use the next hop
+  // directly. The report may be made only if the datagram is forwarded, if the sender is in that
+  // network, and if the header has no source route (RFC 1812, section 5.2.7.2). Here the header may
+  // have no options at all. The PaintTee stands last, so that no other report is made too.
+  back [1] -> Classifier(0/45 12/$net) -> ICMPError($ip, redirect, 1) -> [1] output;
 }
 
 // The datagrams from one Ethernet. They leave at output 0 for eth0 and at output 1 for eth1. $ip is
-// the router's address in that Ethernet: reports have it as their source, because they leave there
-// (RFC 1812, section 4.3.2.4).
+// the router's address in that Ethernet, and the source of reports. They leave there, as RFC 1812
+// (section 4.3.2.4) requires of this source, unless the sender's address belongs to the other side.
 elementclass Route { $ip, $net |
   // The header has to be valid. Its source must not be a broadcast address or the router.
   input -> CheckIPHeader(10.1.0.0 10.1.255.255 10.2.0.0 10.2.255.255 10.1.0.1 10.2.0.1)

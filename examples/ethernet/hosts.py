@@ -490,7 +490,8 @@ def redirected(host: Host, other: Host) -> None:
     """Checks that a datagram to a neighbour gets a redirect, and goes on."""
     watch, watch_other = host.watch(), other.watch()
     sent = datagram_of(host.own.ip, NEIGHBOUR, UDP, udp(9))
-    wanted = [host.from_router(report(host.router.ip, sent, REDIRECT, 1, NEIGHBOUR))]
+    # The router decrements the time to live before it finds that the datagram leaves where it came.
+    wanted = [host.from_router(report(host.router.ip, forwarded(sent), REDIRECT, 1, NEIGHBOUR))]
     same_packets(wanted, host.answers(host.to_router(sent)), "what answers a datagram to a neighbour")
     same_packets([NEIGHBOUR], watch.queries(), "addresses that the router asks for")
     # The sender of the redirect has to be in the same network, and the header has no options.
@@ -539,6 +540,18 @@ def path_mtu(one: Host, other: Host) -> None:
     same(long, received(getting, "a datagram in two fragments"), "what arrives")
     same(2, len([it for it in watch_other.frames(False) if is_ip(it) and it[23] == UDP]), "the number of fragments")
     said(f"path MTU: {MTU} in both directions, by UDP and by TCP; {FETCHED:,} bytes fetched")
+
+
+def not_forwarded(host: Host) -> None:
+    """Checks that a datagram to a neighbour that is not forwarded is reported, and not redirected.
+
+    A redirect is made only if the datagram is forwarded (RFC 1812, section 5.2.7.2).
+    """
+    expired = datagram_of(host.own.ip, NEIGHBOUR, UDP, udp(9), ttl=1)
+    long = datagram_of(host.own.ip, NEIGHBOUR, UDP, udp(9, bytes(MTU - 27)))
+    wanted = [host.from_router(report(host.router.ip, expired, TIME_EXCEEDED, 0)), too_long(host, long)]
+    same_packets(wanted, host.answers(*map(host.to_router, (expired, long))), "what answers two datagrams that are not forwarded")
+    said("two datagrams to a neighbour that are not forwarded: reported, and not redirected")
 
 
 def received(getting: socket.socket, what: str) -> bytes:
@@ -797,6 +810,7 @@ def main(words: list[str]) -> int:
         unreachable(left, right)
         redirected(left, right)
         path_mtu(left, right)
+        not_forwarded(left)
         unanswered(left, right)
         changes_ether(left, right)
         unknown(left, right, router)
