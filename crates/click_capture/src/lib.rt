@@ -11,6 +11,6 @@ pub use fault::{HeaderFault, TooLong};
 pub use header::{HEADER_LEN, Header, Link, Resolution, header_bytes, header_of};
 pub use order::Order;
 pub use record::{
-    MAX_RECORD_BYTES, RECORD_HEADER_LEN, RecordHeader, Time, longest, record_bytes,
+    MAX_RECORD_BYTES, RECORD_HEADER_LEN, RecordHeader, Time, longest, record_head_bytes,
     record_header_of,
 };

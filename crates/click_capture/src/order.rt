@@ -14,12 +14,22 @@ pub enum Order {
 
 impl Order {
     /// Returns the number as four bytes.
+    ///
+    /// perf: the two orders meet in one number, which is stored at once; four bytes would be moved
+    /// one by one.
     pub(crate) fn u32_bytes(self, number: u32) -> [u8; 4]
         ensures { result ≡ word self number }
     {
+        self.as_little(number).to_le_bytes()
+    }
+
+    /// Returns the number whose bytes, the lowest first, are those of `number` in this order.
+    fn as_little(self, number: u32) -> u32
+        ensures { word Order.Little result ≡ word self number }
+    {
         match self {
-            Order::Little => number.to_le_bytes(),
-            Order::Big => number.to_be_bytes(),
+            Order::Little => number,
+            Order::Big => u32::from_le_bytes(number.to_be_bytes()),
         }
     }
 

@@ -1,12 +1,11 @@
 //! The records of a capture: a head of 16 bytes, and then the bytes of a packet.
 
 ghost use Rattle.std.specs.Prelude.{◌≡◌, ◌≤◌, ◌<◌, length, IfOk, IfErr};
-ghost use Rattle.click_capture.specs.Captures.{longest, head_bytes, head_with, record_bytes, whole};
+ghost use Rattle.click_capture.specs.Captures.{longest, head_bytes};
 
 use crate::fault::TooLong;
 use crate::header::Header;
 use crate::order::Order;
-use std::alloc::{AllocError, Global};
 
 /// The length of a record's head, in bytes.
 pub const RECORD_HEADER_LEN: usize = 16;
@@ -69,22 +68,15 @@ pub fn record_header_of(header: &Header, bytes: &[u8]) -> Result<RecordHeader, T
     Ok(RecordHeader { time, kept, wire })
 }
 
-/// Returns the bytes of the record of a packet that was kept whole, or fails with out of memory.
-pub fn record_bytes(
-    alloc: Global,
-    order: Order,
-    time: Time,
-    packet: &[u8],
-) -> Result<Vec<u8>, AllocError>
-    requires { length packet.now ≤ 262144 }
-    ensures { IfOk result (λ bytes. bytes.items ≡ record_bytes order (whole time packet.now)) }
+/// Returns the bytes of the head of a packet that is kept whole, of `len` bytes.
+pub fn record_head_bytes(order: Order, time: Time, len: u32) -> [u8; RECORD_HEADER_LEN]
+    ensures { result ≡ head_bytes order (record { time = time; kept = len; wire = len }) }
 {
-    let len = packet.len() as u32;
-    let mut bytes = Vec::with_capacity(alloc, RECORD_HEADER_LEN + packet.len())?;
-    bytes.extend_from_slice(&order.u32_bytes(time.seconds))?;
-    bytes.extend_from_slice(&order.u32_bytes(time.fraction))?;
-    bytes.extend_from_slice(&order.u32_bytes(len))?;
-    bytes.extend_from_slice(&order.u32_bytes(len))?;
-    bytes.extend_from_slice(packet)?;
-    Ok(bytes)
+    let length = order.u32_bytes(len);
+    let mut bytes = [0; RECORD_HEADER_LEN];
+    bytes[..4].copy_from_slice(&order.u32_bytes(time.seconds));
+    bytes[4..8].copy_from_slice(&order.u32_bytes(time.fraction));
+    bytes[8..12].copy_from_slice(&length);
+    bytes[12..].copy_from_slice(&length);
+    bytes
 }

@@ -36,11 +36,6 @@ impl HttpListener {
     {
         self.port
     }
-
-    /// Returns the address of the listener. If port 0 was asked for, the system chose the port.
-    pub fn local_addr(&self) -> io::Result<SocketAddr> {
-        self.sockets.local_addr()
-    }
 }
 
 /// Returns the address at which a page is served: only on this machine.

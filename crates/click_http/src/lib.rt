@@ -11,6 +11,7 @@ mod settings;
 mod sockets;
 mod step;
 mod timer;
+mod watched_stream;
 
 pub use http_listener::{HttpListener, open_http_listener};
 pub use serving::{Ended, serve_until};

@@ -6,11 +6,11 @@ ghost use Rattle.http_server.specs.History.{WantsRead};
 ghost use Rattle.click_http.specs.Leading.{page_config, Leads};
 ghost use Rattle.click_http.specs.Phases.{begins, IsInTime, HasOutput, HasNoOutput, HasAnswer, Suits};
 
-use crate::chunk_watch::ChunkWatch;
 use crate::phase::Phase;
 use crate::settings::page_limits;
 use crate::step::Step;
 use crate::timer::{Timer, Verdict};
+use crate::watched_stream::WatchedStream;
 use http_server::{Connection, Service};
 use mio::net::TcpStream;
 use std::alloc::Global;
@@ -24,9 +24,6 @@ const MAX_STEPS: u32 = 6;
 
 /// The number of bytes that are read and dropped at once.
 const SCRATCH_BYTES: usize = 4096;
-
-/// The maximum number of bytes that are looked at before a read.
-const SEEN_BYTES: usize = 16_384;
 
 /// The interim response that asks a peer to send the rest of its request.
 const CONTINUE: &[u8] = b"HTTP/1.1 100 Continue\r\n\r\n";
@@ -52,11 +49,6 @@ fn has_answer(connection: &Connection) -> bool
     connection.wants_write() && connection.output() != CONTINUE
 }
 
-/// Copies the next bytes that a read would give, and returns their number. It is 0 if none are there.
-fn look(stream: &TcpStream, seen: &mut [u8]) -> usize {
-    stream.peek(seen).unwrap_or(0)
-}
-
 /// Records that the service was called, if there was a request to answer.
 fn note_called(timer: &mut Timer, connection: &Connection, now: Instant)
     requires { timer.old.phase ≢ Phase.HalfClosed }
@@ -74,7 +66,7 @@ fn note_called(timer: &mut Timer, connection: &Connection, now: Instant)
 /// to a request that has no response yet.
 #[derive(Drop)]
 pub(crate) struct Peer {
-    stream: TcpStream,
+    stream: WatchedStream,
     connection: Connection,
     timer: Timer,
     /// Whether a read may succeed. The system reports changes only, so this stays true until a read
@@ -84,8 +76,6 @@ pub(crate) struct Peer {
     writable: bool,
     /// Whether the peer has ended its output.
     ended: bool,
-    /// The chunks of the request that is read.
-    watch: ChunkWatch,
     ghost limits: { config_of connection ≡ page_config },
     ghost suits: { Suits timer.phase connection },
     ghost input: { ended ≡ (history connection).ended },
@@ -99,13 +89,12 @@ impl Peer {
         ensures { IsNew result now }
     {
         Peer {
-            stream,
+            stream: WatchedStream::new(stream),
             connection: Connection::new(alloc, keys, page_limits()),
             timer: Timer::begin(Phase::Idle, now),
             readable: true,
             writable: true,
             ended: false,
-            watch: ChunkWatch::new(),
         }
     }
 
@@ -154,7 +143,7 @@ impl Peer {
         ensures more { result ≡ Step.More → IsGoingOn self.old self.new }
         ensures other { self.new.readable ≡ self.old.readable }
     {
-        match self.connection.write_to(&mut self.stream) {
+        match self.connection.write_to(&mut self.stream.socket) {
             Ok(0) => Step::Over,
             Ok(_) => {
                 self.connection.advance(service);
@@ -182,13 +171,8 @@ impl Peer {
         ensures more { result ≡ Step.More → IsGoingOn self.old self.new }
         ensures other { self.new.writable ≡ self.old.writable }
     {
-        let mut seen = [0u8; SEEN_BYTES];
-        let seen_count = look(&self.stream, &mut seen);
         match self.connection.read_from(&mut self.stream) {
             Ok(count) => {
-                let begins = self.timer.phase.is_idle();
-                self.watch
-                    .note(begins, &seen[..seen_count.min(SEEN_BYTES)], count);
                 if count == 0 {
                     self.ended = true;
                 } else {
@@ -216,7 +200,7 @@ impl Peer {
         ensures over { result ≡ Step.Over → self.new ≡ self.old }
         ensures more { result ≡ Step.More → IsHalfClosed self.old self.new now }
     {
-        if self.ended || self.stream.shutdown(Shutdown::Write).is_err() {
+        if self.ended || self.stream.socket.shutdown(Shutdown::Write).is_err() {
             Step::Over
         } else {
             self.timer = Timer::begin(Phase::HalfClosed, now);
@@ -232,7 +216,7 @@ impl Peer {
         ensures over { result ≡ Step.Over → self.new ≡ self.old }
         ensures more { result ≡ Step.More → IsHalfClosed self.old self.new now }
     {
-        if self.stream.write(TOO_LARGE).is_ok() {
+        if self.stream.socket.write(TOO_LARGE).is_ok() {
             self.shut_output(now)
         } else {
             Step::Over
@@ -249,7 +233,7 @@ impl Peer {
         ensures timer { self.new.timer ≡ self.old.timer }
     {
         let mut scratch = [0u8; SCRATCH_BYTES];
-        match self.stream.read(&mut scratch) {
+        match self.stream.socket.read(&mut scratch) {
             Ok(0) => Step::Over,
             Ok(_) => Step::More,
             Err(fault) => {
@@ -272,7 +256,7 @@ impl Peer {
             self.drain()
         } else if self.connection.wants_write() {
             self.write(service, now)
-        } else if self.connection.wants_read() && self.watch.is_too_long() {
+        } else if self.connection.wants_read() && self.stream.has_long_chunk() {
             self.refuse_body(now)
         } else if self.connection.wants_read() {
             self.read(service, now)
@@ -317,7 +301,7 @@ impl Peer {
         ensures ended { IsTrue result → IsHalfClosed self.old self.new now }
         ensures failed { IsFalse result → self.new ≡ self.old }
     {
-        let told = self.stream.write(OVERDUE);
+        let told = self.stream.socket.write(OVERDUE);
         told.is_ok() && self.shut_output(now) != Step::Over
     }
 
@@ -343,10 +327,10 @@ impl Peer {
             connection,
             ..
         } = self;
-        let mut stream = stream;
+        let mut socket = stream.socket;
         let mut connection = connection;
         if connection.wants_write() {
-            let _ = connection.write_to(&mut stream);
+            let _ = connection.write_to(&mut socket);
         }
     }
 }

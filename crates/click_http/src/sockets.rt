@@ -16,7 +16,7 @@ use mio::{Events, Interest, Poll, Token};
 use std::alloc::{AllocError, Global};
 use std::hash::RandomState;
 use std::io;
-use std::net::{Net, SocketAddr};
+use std::net::Net;
 use std::random::RandomSource;
 use std::time::{Duration, Instant};
 
@@ -197,11 +197,6 @@ impl Sockets {
             keys: RandomState::new(rt)?,
             places: empty_places(alloc)?,
         })
-    }
-
-    /// Returns the address of the listener.
-    pub(crate) fn local_addr(&self) -> io::Result<SocketAddr> {
-        self.listener.local_addr()
     }
 
     /// Blocks until the system reports a socket or one tick is over, and records what it reports.

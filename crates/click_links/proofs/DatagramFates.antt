@@ -5,7 +5,7 @@ use Rattle.click_links.specs.declared.datagram.Datagram.{Datagram}
 use Rattle.click_links.specs.declared.datagram.DatagramOutcome.{DatagramOutcome}
 use Rattle.click_links.specs.declared.datagram.DatagramOutcome.TheVariants.{Enqueued, ForeignSender, TooLong, FeedFull, NoMemory}
 use Rattle.click_links.specs.declared.dropped.Dropped.{Dropped}
-use Rattle.click_links.specs.Ends.{Offering}
+use Rattle.click_links.specs.Ends.{Offering, Received, further}
 use Rattle.click_links.specs.Fates.{Heard, heard, put_of, puts, asked_of, asks, counted, of_stranger, of_long, of_full, of_memory, nothing_dropped, AllBelow, IsDue, EachDue, Hears, Receives, Steps, added}
 
 abbrev datagrams : List Heard → List Datagram
@@ -32,9 +32,10 @@ counted_one : (f : DatagramOutcome → ℕ) (hs : List Heard) (datagram : Datagr
 counted_one f [] datagram fate = omega arith
 counted_one f (h ∷ hs) datagram fate = omega (arith, counted_one f hs datagram fate)
 
-pub hears_then : (came came2 came3 : List Datagram) (from mid to : Offering) (hs ks : List Heard) → Hears came came2 from mid hs → Hears came2 came3 mid to ks → Hears came came3 from to (hs ++ ks)
+pub hears_then : (came came2 came3 : Received) (from mid to : Offering) (hs ks : List Heard) → Hears came came2 from mid hs → Hears came2 came3 mid to ks → Hears came came3 from to (hs ++ ks)
 hears_then came came2 came3 from mid to hs ks a b = record {
-  more = b.more ∙ (ap (λ l. l ++ datagrams ks) a.more ∙ (append_assoc came (datagrams hs) (datagrams ks) ∙ ap (λ l. came ++ l) (sym (datagrams_append hs ks))));
+  more = b.more ∙ (ap (λ r. further r (datagrams ks)) a.more
+      ∙ ap (λ l. record { addresses = came.addresses; datagrams = l }) (append_assoc came.datagrams (datagrams hs) (datagrams ks) ∙ ap (λ l. came.datagrams ++ l) (sym (datagrams_append hs ks))));
   offered = b.offered ∙ (ap (λ l. l ++ asks ks) a.offered ∙ (append_assoc from.asked (asks hs) (asks ks) ∙ ap (λ l. from.asked ++ l) (sym (asks_append hs ks))));
   entered = b.entered ∙ (ap (λ l. l ++ puts ks) a.entered ∙ (append_assoc from.feed.put (puts hs) (puts ks) ∙ ap (λ l. from.feed.put ++ l) (sym (puts_append hs ks))));
   due = due_append from.feed.places from.feed.put hs ks a.due (subst (λ p. EachDue p (from.feed.put ++ puts hs) ks) a.places (subst (λ l. EachDue mid.feed.places l ks) a.entered b.due));
@@ -43,7 +44,7 @@ hears_then came came2 came3 from mid to hs ks a b = record {
 }
 
 -- One datagram came.
-pub hears_one : (came came2 : List Datagram) (from to : Offering) (datagram : Datagram) (fate : DatagramOutcome) → came2 ≡ came ++ datagram ∷ [] → to.asked ≡ from.asked ++ asked_of fate datagram.bytes
+pub hears_one : (came came2 : Received) (from to : Offering) (datagram : Datagram) (fate : DatagramOutcome) → came2 ≡ further came (datagram ∷ []) → to.asked ≡ from.asked ++ asked_of fate datagram.bytes
     → to.feed.put ≡ from.feed.put ++ put_of fate datagram.bytes → IsDue from.feed.places (length from.feed.put) datagram fate → to.feed.places ≡ from.feed.places → to.feed.ring ≡ from.feed.ring
     → Hears came came2 from to (heard datagram fate ∷ [])
 hears_one came came2 from to datagram fate more offered entered due places ring = record {
@@ -56,11 +57,11 @@ hears_one came came2 from to datagram fate more offered entered due places ring 
 }
 
 -- No datagram came.
-pub receives_none : (came : List Datagram) (from : Offering) → Receives came came from from nothing_dropped
+pub receives_none : (came : Received) (from : Offering) → Receives came came from from nothing_dropped
 receives_none came from = record {
   heard_here = [];
   hears = record {
-    more = sym (append-nil came);
+    more = ap (λ l. record { addresses = came.addresses; datagrams = l }) (sym (append-nil came.datagrams));
     offered = sym (append-nil from.asked);
     entered = sym (append-nil from.feed.put);
     due = tt;
@@ -74,7 +75,7 @@ receives_none came from = record {
 }
 
 -- One more datagram came.
-pub receives_more : (came came2 came3 : List Datagram) (from mid to : Offering) (d : Dropped) (datagram : Datagram) (fate : DatagramOutcome) → Receives came came2 from mid d → Hears came2 came3 mid to (heard datagram fate ∷ [])
+pub receives_more : (came came2 came3 : Received) (from mid to : Offering) (d : Dropped) (datagram : Datagram) (fate : DatagramOutcome) → Receives came came2 from mid d → Hears came2 came3 mid to (heard datagram fate ∷ [])
     → Receives came came3 from to (added d fate)
 receives_more came came2 came3 from mid to d datagram fate r h = record {
   heard_here = r.heard_here ++ heard datagram fate ∷ [];
@@ -86,9 +87,9 @@ receives_more came came2 came3 from mid to d datagram fate r h = record {
 }
 
 -- No further datagram came.
-pub receives_same : (came came2 came3 : List Datagram) (from mid to : Offering) (d : Dropped) → Receives came came2 from mid d → came3 ≡ came2 → to ≡ mid → Receives came came3 from to d
+pub receives_same : (came came2 came3 : Received) (from mid to : Offering) (d : Dropped) → Receives came came2 from mid d → came3 ≡ came2 → to ≡ mid → Receives came came3 from to d
 receives_same came came2 came3 from mid to d r same still =
-    subst (λ (o : Offering). Receives came came3 from o d) (sym still) (subst (λ (l : List Datagram). Receives came l from mid d) (sym same) r)
+    subst (λ (o : Offering). Receives came came3 from o d) (sym still) (subst (λ (l : Received). Receives came l from mid d) (sym same) r)
 
 -- A fate adds at most one to each number.
 adds_one : (fate : DatagramOutcome) → AllBelow (added nothing_dropped fate) 2
@@ -126,7 +127,7 @@ due_full places before datagram known short full = record {
   room = λ _. full;
 }
 
-pub received_step : (came came2 came3 : List Datagram) (from mid to : Offering) (d d2 : Dropped) → Receives came came2 from mid d → Steps came2 came3 mid to d d2 → Receives came came3 from to d2
+pub received_step : (came came2 came3 : Received) (from mid to : Offering) (d d2 : Dropped) → Receives came came2 from mid d → Steps came2 came3 mid to d d2 → Receives came came3 from to d2
 received_step came came2 came3 from mid to d d2 r (inl (same, still, is)) =
     subst (λ (x : Dropped). Receives came came3 from to x) (sym is) (receives_same came came2 came3 from mid to d r same still)
 received_step came came2 came3 from mid to d d2 r (inr (datagram, fate, hears, is)) =
@@ -140,7 +141,7 @@ due_memory places before datagram known short = record {
 }
 
 -- Each number grows by at most one.
-pub steps_small : (came came2 : List Datagram) (from to : Offering) (d d2 : Dropped) (n : ℕ) → AllBelow d (n + 1) → Steps came came2 from to d d2 → AllBelow d2 (n + 1 + 1)
+pub steps_small : (came came2 : Received) (from to : Offering) (d d2 : Dropped) (n : ℕ) → AllBelow d (n + 1) → Steps came came2 from to d d2 → AllBelow d2 (n + 1 + 1)
 steps_small came came2 from to d d2 n below (inl (same, still, is)) = (
   omega (arith, below.0, ap (λ (x : Dropped). x.strangers) is),
   omega (arith, below.1, ap (λ (x : Dropped). x.too_long) is),

@@ -1,5 +1,5 @@
 -- The values of the ends of links in contracts.
-use Rattle.std.specs.Prelude.{◌≡◌, ℕ, Bool, false, List, [], ◌∷◌, ◌++◌, Option, Some, None, if◌then◌else◌}
+use Rattle.std.specs.Prelude.{◌≡◌, ℕ, Bool, false, List, [], ◌∷◌, ◌++◌, take, Option, Some, None, if◌then◌else◌}
 use Rattle.std.specs.Str.{bytes_eq}
 use Rattle.std.specs.declared.net.socket_addr.SocketAddr.{SocketAddr}
 use Rattle.click_packet.specs.Packet.{Packet}
@@ -11,6 +11,20 @@ pub record Reading : Type 0 where
   pub all : List Datagram
   pub next : ℕ
 
+-- The two addresses of a receiving end: the one that its socket was asked for, and its peer's.
+pub record EndAddresses : Type 0 where
+  pub here : SocketAddr
+  pub there : SocketAddr
+
+-- What came over a receiving end: its addresses, if it has any, and the datagrams, oldest first.
+pub record Received : Type 0 where
+  pub addresses : Option EndAddresses
+  pub datagrams : List Datagram
+
+-- What came over the same end after these further datagrams.
+abbrev pub further : Received → List Datagram → Received
+further r more = record { addresses = r.addresses; datagrams = r.datagrams ++ more }
+
 -- The receiving end of a link over UDP: the address that its socket was asked for, its peer, the
 -- datagrams that came, and the latest of them.
 pub record Hearing : Type 0 where
@@ -18,6 +32,14 @@ pub record Hearing : Type 0 where
   pub there : SocketAddr
   pub came : List Datagram
   pub current : Datagram
+
+-- What came over an end over UDP.
+abbrev pub received_over : Hearing → Received
+received_over h = record { addresses = Some (record { here = h.here; there = h.there }); datagrams = h.came }
+
+-- What came over an end in memory, which has no addresses: the datagrams that were read.
+abbrev pub received_in_memory : Reading → Received
+received_in_memory r = record { addresses = None; datagrams = take r.next r.all }
 
 -- No datagram: no bytes, and not from the peer.
 abbrev pub nothing : Datagram

@@ -5,7 +5,7 @@ use Rattle.click_links.specs.declared.datagram.Datagram.{Datagram}
 use Rattle.click_links.specs.declared.datagram.DatagramOutcome.{DatagramOutcome}
 use Rattle.click_links.specs.declared.datagram.DatagramOutcome.TheVariants.{Enqueued, ForeignSender, TooLong, FeedFull, NoMemory}
 use Rattle.click_links.specs.declared.dropped.Dropped.{Dropped}
-use Rattle.click_links.specs.Ends.{Offer, offer, Offering}
+use Rattle.click_links.specs.Ends.{Offer, offer, Offering, Received, further}
 
 -- A datagram that came, with its fate.
 pub record Heard : Type 0 where
@@ -98,19 +98,19 @@ abbrev pub EachDue : ℕ → List Packet → List Heard → Type 0
 EachDue places put [] = Unit {0}
 EachDue places put (h ∷ hs) = IsDue places (length put) h.datagram h.fate × EachDue places (put ++ put_of h.fate h.datagram.bytes) hs
 
--- These further datagrams came. The feed was offered exactly the packets of those that are from the
+-- These further datagrams came over the same end. The feed was offered exactly the packets of those that are from the
 -- peer, short enough and had memory, in order and exactly once. What the feed took was put into it.
 -- Each fate is right.
-pub record Hears (came came2 : List Datagram) (from to : Offering) (hs : List Heard) : Type 0 where
-  pub more : came2 ≡ came ++ map (λ h. h.datagram) hs
+pub record Hears (came came2 : Received) (from to : Offering) (hs : List Heard) : Type 0 where
+  pub more : came2 ≡ further came (map (λ h. h.datagram) hs)
   pub offered : to.asked ≡ from.asked ++ asks hs
   pub entered : to.feed.put ≡ from.feed.put ++ puts hs
   pub due : EachDue from.feed.places from.feed.put hs
   pub places : to.feed.places ≡ from.feed.places
   pub ring : to.feed.ring ≡ from.feed.ring
 
--- Some further datagrams came, with these numbers of dropped ones by cause.
-pub record Receives (came came2 : List Datagram) (from to : Offering) (dropped : Dropped) : Type 0 where
+-- Some further datagrams came over the same end, with these numbers of dropped ones by cause.
+pub record Receives (came came2 : Received) (from to : Offering) (dropped : Dropped) : Type 0 where
   pub heard_here : List Heard
   pub hears : Hears came came2 from to heard_here
   pub strangers : dropped.strangers ≡ counted of_stranger heard_here
@@ -131,6 +131,6 @@ abbrev pub added : Dropped → DatagramOutcome → Dropped
 added d f = record { strangers = d.strangers + of_stranger f; too_long = d.too_long + of_long f; no_room = d.no_room + of_full f; no_memory = d.no_memory + of_memory f }
 
 -- No further datagram came, or one that is counted.
-abbrev pub Steps : List Datagram → List Datagram → Offering → Offering → Dropped → Dropped → Type 0
+abbrev pub Steps : Received → Received → Offering → Offering → Dropped → Dropped → Type 0
 Steps came came2 from to d d2 =
     ((came2 ≡ came) × (to ≡ from) × (d2 ≡ d)) ⊎ ((datagram : Datagram) × (fate : DatagramOutcome) × Hears came came2 from to (heard datagram fate ∷ []) × (d2 ≡ added d fate))

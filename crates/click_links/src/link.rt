@@ -1,7 +1,7 @@
 //! The two ends of a link.
 
 ghost use Rattle.std.specs.Prelude.{◌≡◌, ◌++◌, ◌∷◌, [], IfOk, OnErr, if◌then◌else◌};
-ghost use Rattle.click_links.specs.Ends.{attempt};
+ghost use Rattle.click_links.specs.Ends.{attempt, further};
 
 use click_base::sequence::Sequence;
 use click_packet::StoredPacket;
@@ -12,11 +12,11 @@ pub struct LinkFailed;
 
 /// The receiving end of a link.
 pub trait Inbound {
-    ghost use Rattle.std.specs.Prelude.{List};
     ghost use Rattle.click_links.specs.declared.datagram.Datagram.{Datagram};
+    ghost use Rattle.click_links.specs.Ends.{Received};
 
-    /// The datagrams that came, oldest first.
-    ghost received: { Self → List Datagram };
+    /// The addresses of the end, if it has any, and the datagrams that came, oldest first.
+    ghost received: { Self → Received };
 
     /// The latest datagram.
     ghost current: { Self → Datagram };
@@ -24,7 +24,7 @@ pub trait Inbound {
     /// Blocks until a datagram comes, or until the link's own timeout is over. Returns whether one
     /// came.
     fn receive(&mut self) -> Result<bool, LinkFailed>
-        ensures ok { IfOk result (λ one. received self.new ≡ received self.old ++ (if one then current self.new ∷ [] else [])) }
+        ensures ok { IfOk result (λ one. received self.new ≡ further (received self.old) (if one then current self.new ∷ [] else [])) }
         ensures err { OnErr result (received self.new ≡ received self.old) };
 
     /// Returns the bytes of the latest datagram.

@@ -39,7 +39,9 @@ impl MemoryIn {
 }
 
 impl Inbound for MemoryIn {
-    ghost received = { λ l. take l.next l.all };
+    ghost use Rattle.click_links.specs.Ends.{received_in_memory};
+
+    ghost received = { λ l. received_in_memory l };
 
     ghost current = { λ l. slice_index_or l.all (l.next - 1) nothing };
 

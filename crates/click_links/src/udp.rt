@@ -1,6 +1,6 @@
 //! Links over UDP.
 
-ghost use Rattle.std.specs.Prelude.{◌≡◌, ◌≤◌, ◌↔◌, vec_len, ◌++◌, ◌∷◌, [], map, option_map, take, true, false, None, IsSome, IsTrue, IfOk, OnOk, OnErr, if◌then◌else◌};
+ghost use Rattle.std.specs.Prelude.{◌≡◌, ◌≤◌, ◌↔◌, vec_len, ◌++◌, ◌∷◌, [], map, option_map, take, true, false, None, IsSome, IsTrue, IfOk, OnOk};
 ghost use Rattle.click_links.specs.Ends.{attempt, line_of as line_for};
 ghost use Rattle.click_links.specs.SocketFaults.{IsTemporary, IsTemporaryKind, IsTemporaryNumber};
 
@@ -151,15 +151,13 @@ impl Model for UdpIn {
 }
 
 impl Inbound for UdpIn {
-    ghost received = { λ u. u.came };
+    ghost use Rattle.click_links.specs.Ends.{received_over};
+
+    ghost received = { λ u. received_over u };
 
     ghost current = { λ u. u.current };
 
-    fn receive(&mut self) -> Result<bool, LinkFailed>
-        ensures ok { IfOk result (λ one. self.new.came ≡ self.old.came ++ (if one then self.new.current ∷ [] else [])) }
-        ensures err { OnErr result (self.new.came ≡ self.old.came) }
-        ensures places { (self.new.here ≡ self.old.here) × (self.new.there ≡ self.old.there) }
-    {
+    fn receive(&mut self) -> Result<bool, LinkFailed> {
         match receive_datagram(&mut self.datagram_socket) {
             Ok(()) => {
                 self.came = self.came.and(&self.datagram_socket, &());
