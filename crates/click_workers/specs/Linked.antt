@@ -13,10 +13,9 @@ use Rattle.click_desk.specs.SeatStates.{SeatState}
 use Rattle.click_desk.specs.declared.entry.Entry.{Entry}
 use Rattle.click_desk.specs.declared.open.OpenFault.{OpenFault}
 use Rattle.click_desk.specs.declared.open.OpenFault.TheVariants as fault
-use Rattle.click_links.specs.Ends.{Attempt, IsNewFeed, Offering}
+use Rattle.click_links.specs.Ends.{Attempt, IsNewFeed, Offering, Received}
 use Rattle.click_links.specs.Fates.{Receives}
 use Rattle.click_links.specs.Forwarding.{Forwards}
-use Rattle.click_links.specs.declared.datagram.Datagram.{Datagram}
 use Rattle.click_links.specs.declared.dropped.Dropped.{Dropped}
 use Rattle.click_workers.specs.Runs.{HeadlineWith}
 use Rattle.click_workers.specs.Work.{Worked}
@@ -70,11 +69,12 @@ ForwardsBeside devices before after does old new done = Forwards devices old.0.c
 abbrev pub IsSettled : List Entry → List ℕ → List Packet → Option (List Packet) → Type 0
 IsSettled history device put left = (rest : List Packet) × (put ≡ polled history device ++ rest) × IfSome left (λ l. l ≡ rest)
 
--- The outcome of a link. Each datagram that came became a packet of the link's feed, or was dropped
--- and counted by its cause. The feed was new and had the places of a link. Its packets are those
--- that the history polled of the device, followed by the rest, in order and exactly once. This
--- holds also if there was no memory to list the rest.
-pub record LinkRan (history : List Entry) (device : List ℕ) (came came2 : List Datagram) (dropped : Dropped) (left : Option (List Packet)) : Type 0 where
+-- The outcome of a link. Its receiving end has the addresses that it had before. Each datagram that
+-- came over it became a packet of the link's feed, or was dropped and counted by its cause. The feed
+-- was new and had the places of a link. Its packets are those that the history polled of the device,
+-- followed by the rest, in order and exactly once. This holds also if there was no memory to list
+-- the rest.
+pub record LinkRan (history : List Entry) (device : List ℕ) (came came2 : Received) (dropped : Dropped) (left : Option (List Packet)) : Type 0 where
   pub from : Offering
   pub to : Offering
   pub fresh : IsNewFeed from

@@ -4,6 +4,7 @@
 mod checking;
 mod clients;
 mod companion;
+mod connection;
 mod door;
 mod driver;
 mod gate;
@@ -24,6 +25,7 @@ mod work;
 
 pub use clients::Clients;
 pub use companion::{Companion, NoCompanion};
+pub use connection::Connection;
 pub use door::Door;
 pub use gate::{Gate, OpenGate};
 pub use linked::{LinkEnd, LinkSetup, LinkedRan, run_linked, run_linked_with_companion};

@@ -3,14 +3,14 @@
 ghost use Rattle.std.specs.Prelude.{◌≡◌, true, false};
 ghost use Rattle.click_workers.specs.Doors.{has_device_failed};
 
+use crate::connection::Connection;
 use crate::door::Door;
 use crate::observer::{CallSummary, Observer, SessionRecord};
 use click_control::{AskFault, Ended, ServeFault};
 use click_router::StoredReply;
 use click_streams::{Reading, Writing};
 use std::io;
-use std::io::Read;
-use std::net::{Shutdown, TcpListener, TcpStream};
+use std::net::{Shutdown, TcpListener};
 use std::time::{Clock, Duration, Instant};
 
 /// The maximum time for which the input of an ended session is discarded, in milliseconds.
@@ -26,7 +26,7 @@ const DISCARD_CHUNK_BYTES: usize = 16_384;
 /// Nothing is promised about the peer.
 ///
 /// With an idle limit a read of a session fails if no byte comes for this time. A write fails if
-/// the peer takes no byte for this time.
+/// the peer takes no byte for this time. A signal does not end them; then the time begins again.
 #[derive(Drop)]
 pub struct Listening<'a, C, O> {
     listener: TcpListener,
@@ -52,12 +52,12 @@ impl<'a, C, O> Listening<'a, C, O> {
     }
 
     /// Accepts a connection, and returns two handles of it.
-    fn accept(&self) -> io::Result<(TcpStream, TcpStream)> {
+    fn accept(&self) -> io::Result<(Connection, Connection)> {
         let (stream, _) = self.listener.accept()?;
         stream.set_read_timeout(self.idle_limit)?;
         stream.set_write_timeout(self.idle_limit)?;
         let other = stream.try_clone()?;
-        Ok((stream, other))
+        Ok((Connection::new(stream), Connection::new(other)))
     }
 }
 
@@ -83,11 +83,11 @@ impl<'a, C: Clock + Sync, O: Observer> Observer for Listening<'a, C, O> {
 impl<'a, C: Clock + Sync, O: Observer> Door for Listening<'a, C, O> {
     ghost lets_in = { λ _ _ _. Unit {0} };
 
-    type Reader = Reading<TcpStream>;
+    type Reader = Reading<Connection>;
 
-    type Writer = Writing<TcpStream>;
+    type Writer = Writing<Connection>;
 
-    fn enter(&self, _who: usize) -> Option<(Reading<TcpStream>, Writing<TcpStream>)> {
+    fn enter(&self, _who: usize) -> Option<(Reading<Connection>, Writing<Connection>)> {
         match self.accept() {
             Ok((stream, other)) => Some((Reading::new(stream), Writing::new(other))),
             Err(_) => None,
@@ -98,8 +98,8 @@ impl<'a, C: Clock + Sync, O: Observer> Door for Listening<'a, C, O> {
         &self,
         _who: usize,
         ended: &Result<Ended, ServeFault>,
-        reader: Reading<TcpStream>,
-        _writer: Writing<TcpStream>,
+        reader: Reading<Connection>,
+        _writer: Writing<Connection>,
     ) {
         // A peer that is gone, or that kept the session waiting, gets no more time.
         if has_device_failed(ended) {
@@ -122,8 +122,8 @@ fn has_device_failed(ended: &Result<Ended, ServeFault>) -> bool
 ///
 /// If bytes are unread when a connection is closed, the system resets it (RFC 1122, section
 /// 4.2.2.13). Replies that the peer does not have yet are then lost.
-fn discard_rest<C: Clock>(clock: &C, mut stream: TcpStream) -> io::Result<()> {
-    stream.shutdown(Shutdown::Write)?;
+fn discard_rest<C: Clock>(clock: &C, mut connection: Connection) -> io::Result<()> {
+    connection.stream.shutdown(Shutdown::Write)?;
     let start = Instant::now(clock)?;
     let limit = Duration::from_millis(MAX_DISCARD_MS);
     let mut piece = [0; DISCARD_CHUNK_BYTES];
@@ -133,8 +133,8 @@ fn discard_rest<C: Clock>(clock: &C, mut stream: TcpStream) -> io::Result<()> {
         if time_left.is_zero() {
             return Ok(());
         }
-        stream.set_read_timeout(Some(time_left))?;
-        match stream.read(&mut piece)? {
+        connection.stream.set_read_timeout(Some(time_left))?;
+        match connection.receive(&mut piece)? {
             0 => return Ok(()),
             n => bytes_left = bytes_left.saturating_sub(n),
         }
