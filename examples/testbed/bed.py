@@ -173,7 +173,8 @@ class Node:
         for at, it in enumerate(self.bed.topology.ports(self.name)):
             here, there = (f"{ip}:{port}" for ip, port in (self.bed.end_of(it, self.name), self.bed.end_of(it, it.far(self.name))))
             links += ["--link", f"eth{at}={here},{there}"]
-        return [self.bed.program, "--live", *links, "--tell", "1", "-p", str(self.port), "-n", str(SESSIONS), "-e", text]
+        tell = ["--tell", "1"] if links else []
+        return [self.bed.program, "--live", *links, *tell, "-p", str(self.port), "-n", str(SESSIONS), "-e", text]
 
     def start(self, text: str) -> None:
         """Starts the process. Call `is_ready` before `session` is used."""

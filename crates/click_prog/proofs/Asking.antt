@@ -23,6 +23,7 @@ refused-of command matches parsed (why.NotDrawn option) refused = (command, matc
 refused-of command matches parsed (why.NotLive option) refused = (command, matches, parsed, refused)
 refused-of command matches parsed (why.OnlyLive option) refused = (command, matches, parsed, refused)
 refused-of command matches parsed (why.OnlyOver option) refused = (command, matches, parsed, refused)
+refused-of command matches parsed (why.OnlyWith pair) refused = (command, matches, parsed, refused)
 refused-of command matches parsed (why.Link fault) refused = (command, matches, parsed, refused)
 
 pub refused-if : {T : Type 0} (r : Result T ArgumentRefusal) (command : Command) (matches : ArgMatches) → IsParsedFrom command matches → IfErr r (IsRefusedFor (found_of matches)) → IfErr r IsRefused

@@ -1,6 +1,6 @@
 -- Lemmas on flushing a buffer: what was carried before a flush is carried after it, because a flush
 -- takes no more bytes.
-use Rattle.std.proofs.Common.{◌≡◌, ℕ, List, [], Bool, true, false, Option, None, Some, Result, Ok, Err, inl, inr, refl, sym, subst, ◌∙◌}
+use Rattle.std.proofs.Common.{◌≡◌, ℕ, List, [], Bool, true, false, Option, None, Some, Result, Ok, Err, inl, inr, refl, sym, ap, subst, ◌∙◌}
 use Rattle.std.specs.Io.KnownBytes.{Appends, append_known}
 use Rattle.click_capture.specs.Captures.{Record}
 use Rattle.click_capture.specs.declared.header.Header.{Header}
@@ -10,7 +10,7 @@ use Rattle.click_prog.specs.declared.pcap.carry_fault.CarryFault.{CarryFault}
 use Rattle.click_prog.specs.declared.pcap.carry_fault.CarryFault.TheVariants as carry_fault
 use Rattle.click_prog.specs.declared.pcap.carry_fault.SendFault.{SendFault}
 use Rattle.click_prog.specs.declared.pcap.carry_fault.SendFault.TheVariants as unsent
-use Rattle.click_prog.specs.Buffers.{BufferState, taken}
+use Rattle.click_prog.specs.Buffers.{BufferState, taken, Grew}
 use Rattle.click_prog.specs.Passages.{PassageState, went}
 use Rattle.click_prog.specs.Carrying.{SendsAll, Interrupted, Carried, Ends, CarriesBehind, Carries, CarriesThrough}
 use Rattle.click_streams.proofs.Peers.{or-false, or-true}
@@ -32,7 +32,6 @@ front-flushed held holds now bytes f w = (f.0, f.1, f.2, HasWritten-flushed held
 sends-flushed : (h : Header) (time : Time) (old new : PassageState) (held holds now : Output) (why : SendFault)
     → SendsAll {T = Unit {0}} h time old new held holds (Err why) → HasWritten holds now [] false → SendsAll {T = Unit {0}} h time old new held now (Err why)
 sends-flushed h time old new held holds now unsent.GivesOn s w = (s.0, s.1, s.2, HasWritten-flushed held holds now _ false s.3 w)
-sends-flushed h time old new held holds now unsent.NoMemory s w = (s.0, s.1, s.2, HasWritten-flushed held holds now _ false s.3 w)
 sends-flushed h time old new held holds now unsent.WriteFailed s w = (s.0, s.1, s.2, (s.3.0, s.3.1, front-flushed s.3.0 holds now _ s.3.2 w))
 
 interrupted-flushed : (h : Header) (mid left : Input) (midst holds now : Output) (before new : PassageState) (why : SendFault)
@@ -52,9 +51,7 @@ ends-flushed T h had left held holds now first new (Err (carry_fault.TooLong num
 ends-flushed T h had left held holds now first new (Err (carry_fault.GivesOn number at)) e w =
     (e.0, e.1, e.2, e.3, e.4, interrupted-flushed h e.1 left e.2 holds now e.3 new unsent.GivesOn e.5 w, e.6, e.7)
 ends-flushed T h had left held holds now first new (Err carry_fault.Uncounted) e w = (e.0, carried-flushed h had left held holds now first new e.0 e.1 w, e.2)
-ends-flushed T h had left held holds now first new (Err carry_fault.NoMemory) (inl e) w = inl (carried-flushed h had left held holds now first new [] e w)
-ends-flushed T h had left held holds now first new (Err carry_fault.NoMemory) (inr e) w =
-    inr (e.0, e.1, e.2, e.3, e.4, interrupted-flushed h e.1 left e.2 holds now e.3 new unsent.NoMemory e.5 w)
+ends-flushed T h had left held holds now first new (Err carry_fault.NoMemory) e w = carried-flushed h had left held holds now first new [] e w
 ends-flushed T h had left held holds now first new (Err carry_fault.ReadFailed) e w = (e.0, e.1, carried-flushed h had e.1 held holds now first new e.0 e.2 w, e.3)
 ends-flushed T h had left held holds now first new (Err carry_fault.WriteFailed) (inl e) w =
     inl (e.0, e.1, e.2, e.3, e.4, interrupted-flushed h e.1 left e.2 holds now e.3 new unsent.WriteFailed e.5 w)
@@ -72,30 +69,33 @@ behind-carries T h had left held holds old new result (inl c) =
 behind-carries T h had left held holds old new result (inr e) = inr (inr (h, e))
 
 -- the last flush succeeded
-pub through-good : (T O : Type 0) (output : O → Output) (h : Header) (had left : Input) (first mid last : BufferState O) (old new : PassageState) (result : Result T CarryFault)
-    → first.held ≡ [] → CarriesBehind h had left (taken output first) (taken output mid) old new result → HasWritten (taken output mid) (taken output last) [] false → last.held ≡ []
-    → CarriesThrough had left (output first.sink) (output last.sink) old new result
-through-good T O output h had left first mid last old new result none c w gone =
-    let was = behind-carries T h had left (taken output first) (taken output last) old new result
+pub through-good : (T O : Type 0) (output : O → Output) (h : Header) (had left : Input) (was now : O) (first mid last : BufferState O) (old new : PassageState) (result : Result T CarryFault)
+    → (first.sink ≡ was) × (first.held ≡ []) → CarriesBehind h had left (taken output first) (taken output mid) old new result → HasWritten (taken output mid) (taken output last) [] false → last.held ≡ []
+    → now ≡ last.sink → CarriesThrough had left (output was) (output now) old new result
+through-good T O output h had left was now first mid last old new result begins c w gone is =
+    let carried = behind-carries T h had left (taken output first) (taken output last) old new result
     (behind-flushed T h had left (taken output first) (taken output mid) (taken output last) old new result c w) in
-    let from : Carries had left (output first.sink) (taken output last) old new result =
-    subst (λ (o : Output). Carries had left o (taken output last) old new result) (none_held output first none) was in
-    inl (subst (λ (o : Output). Carries had left (output first.sink) o old new result) (none_held output last gone) from)
+    let from : Carries had left (output was) (taken output last) old new result =
+    subst (λ (o : Output). Carries had left o (taken output last) old new result) (none_held output first begins.1 ∙ ap output begins.0) carried in
+    inl (subst (λ (o : Output). Carries had left (output was) o old new result) (none_held output last gone ∙ ap output (sym is)) from)
 
 appends-held : (c : Option (List ℕ)) (bs : List ℕ) → Appends c (append_known c bs) bs
 appends-held None bs = tt
 appends-held (Some xs) bs = refl
 
 -- the last flush failed
-pub through-failed : (T O : Type 0) (output : O → Output) (h : Header) (had left : Input) (first mid last : BufferState O) (old new : PassageState) (run : Result T CarryFault)
-    → first.held ≡ [] → CarriesBehind h had left (taken output first) (taken output mid) old new run → HasWritten (taken output mid) (taken output last) [] true
-    → CarriesThrough {T = T} had left (output first.sink) (output last.sink) old new (Err carry_fault.WriteFailed)
-through-failed T O output h had left first mid last old new run none c w =
+pub through-failed : (T O : Type 0) (output : O → Output) (h : Header) (had left : Input) (was now : O) (first mid last : BufferState O) (old new : PassageState) (run : Result T CarryFault)
+    → (first.sink ≡ was) × (first.held ≡ []) → CarriesBehind h had left (taken output first) (taken output mid) old new run → HasWritten (taken output mid) (taken output last) [] true
+    → now ≡ last.sink → Grew (output was).contents (output now).contents → CarriesThrough {T = T} had left (output was) (output now) old new (Err carry_fault.WriteFailed)
+through-failed T O output h had left was now first mid last old new run begins c w is grew =
     let before : Bool = (output mid.sink).failed in
     let all : Output = record { contents = (taken output last).contents; failed = before } in
     let took : HasWritten (taken output mid) all [] false = record { appended = w.appended; failed = sym (or-false before) } in
-    let was = behind-carries T h had left (taken output first) all old new run
+    let carried = behind-carries T h had left (taken output first) all old new run
     (behind-flushed T h had left (taken output first) (taken output mid) all old new run c took) in
-    let from : Carries had left (output first.sink) all old new run =
-    subst (λ (o : Output). Carries had left o all old new run) (none_held output first none) was in
-    inr (refl, w.failed ∙ or-true before, (all, run, from, (last.held, appends-held (output last.sink).contents last.held)))
+    let from : Carries had left (output was) all old new run =
+    subst (λ (o : Output). Carries had left o all old new run) (none_held output first begins.1 ∙ ap output begins.0) carried in
+    let failed : (output now).failed ≡ true = ap (λ (s : O). (output s).failed) is ∙ w.failed ∙ or-true before in
+    let rest : Appends (output now).contents all.contents last.held =
+    subst (λ (s : O). Appends (output s).contents all.contents last.held) (sym is) (appends-held (output last.sink).contents last.held) in
+    inr (refl, failed, grew, (all, run, from, (last.held, rest)))

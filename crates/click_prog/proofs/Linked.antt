@@ -1,13 +1,14 @@
 -- Lemmas on parsing values as links, one after another.
 use Rattle.std.proofs.Common.{Bool, ◌≡◌, ◌<◌, ◌≤◌, ◌+◌, ◌∙◌, ℕ, zero, suc, List, [], ◌∷◌, ◌++◌, Bor, length, get_or, map, take, true, false, arith, sym, refl}
-use Rattle.std.specs.List.{AllPairs, AllZip, list_any}
+use Rattle.std.specs.List.{All, AllPairs, AllZip, list_any}
 use Rattle.std.specs.Str.{bytes_eq}
 use Rattle.std.proofs.lemmas.List.{get_or-map, get_or-take, length-map, length-take-le, take_all, take_more}
+use Rattle.std.proofs.lemmas.List.Elements.{All-push}
 use Rattle.std.proofs.lemmas.List.Folds.{Any-from_list_any, list_any_at}
 use Rattle.std.proofs.lemmas.List.Quantifiers.{all_pairs_push}
 use Rattle.std.proofs.lemmas.Slice.Eq.{bytes_eq-Decides}
 use Rattle.std.proofs.lemmas.Slice.Zip.{AllZip-long, all_zipped_more}
-use Rattle.click_prog.specs.Links.{AreApart, AreLinks, IsLink, IsTwice}
+use Rattle.click_prog.specs.Links.{AreApart, AreLinks, HasTwoPlaces, IsLink, IsTwice}
 use Rattle.click_prog.specs.declared.link.Link.{Link}
 
 -- the value is the link
@@ -42,6 +43,10 @@ apart-more links link apart new = all_pairs_push AreApart links link apart (λ k
     let bad : false ≡ true = sym new ∙ found in
     cc)
 
+-- one more link with two addresses
+pub distinct-more : (links : List Link) (link : Link) → All HasTwoPlaces links → (link.here ≡ link.there → ⊥) → All HasTwoPlaces (links ++ link ∷ [])
+distinct-more links link so_far new = All-push HasTwoPlaces links link so_far new
+
 -- a device that is in the list already occurs again
 pub twice-of : (values : List (Bor (List ℕ))) (links : List Link) (n : ℕ) (d : Bor (List ℕ)) (link : Link) → n < length values → AllZip Spells (take n values) links
     → IsLink (get_or values n d).now link → has_device links link.device.now ≡ true → IsTwice (map (λ v. v.now) values) link.device.now
@@ -63,9 +68,9 @@ twice-of values links n d link lt so_far spells found =
     }
 
 -- all values were parsed
-pub links-of : (values : List (Bor (List ℕ))) (links : List Link) (n : ℕ) → length values ≤ n → length values ≤ 16 → AllZip Spells (take n values) links → AllPairs AreApart links
-    → AreLinks (map (λ v. v.now) values) links
-links-of values links n all few spelled apart =
+pub links-of : (values : List (Bor (List ℕ))) (links : List Link) (n : ℕ) → length values ≤ n → length values ≤ 16 → AllZip Spells (take n values) links → All HasTwoPlaces links
+    → AllPairs AreApart links → AreLinks (map (λ v. v.now) values) links
+links-of values links n all few spelled distinct apart =
     let whole : AllZip Spells values links = rw take_all at spelled in
     let long = AllZip-long Spells values links whole in
-    record { each = spelled-all values links whole; few = omega arith; apart = apart }
+    record { each = spelled-all values links whole; few = omega arith; distinct = distinct; apart = apart }

@@ -1,5 +1,5 @@
 -- Lemmas on what packets and records lead to, one after another.
-use Rattle.std.proofs.Common.{◌≡◌, ℕ, ◌+◌, List, [], ◌∷◌, ◌++◌, length, false, Some, Err, refl, sym, ap, subst, ◌∙◌, append_assoc, append-nil, inl, inr, arith}
+use Rattle.std.proofs.Common.{◌≡◌, ℕ, ◌+◌, List, [], ◌∷◌, ◌++◌, length, false, Some, Err, refl, sym, ap, subst, ◌∙◌, append_assoc, append-nil, inl, arith}
 use Rattle.std.specs.Prelude.{min, ◌-◌, ◌^◌}
 use Rattle.std.proofs.lemmas.Bool.Decides.{nat_tests}
 use Rattle.std.specs.Io.KnownBytes.{IsAtEnd}
@@ -170,5 +170,4 @@ pub interrupted : (T : Type 0) (h : Header) (had mid left : Input) (held midst h
     → Carried h had mid held midst first before records → Interrupted h mid left midst holds before new why → number ≡ length records + 1 → IsNextAt h records at
     → Ends {T = T} h had left held holds first new (Err (send_carry_fault why number at))
 interrupted T h had mid left held midst holds first before new records unsent.GivesOn number at c i n k = (records, mid, midst, before, c, i, n, k)
-interrupted T h had mid left held midst holds first before new records unsent.NoMemory number at c i n k = inr (records, mid, midst, before, c, i)
 interrupted T h had mid left held midst holds first before new records unsent.WriteFailed number at c i n k = inl (records, mid, midst, before, c, i)

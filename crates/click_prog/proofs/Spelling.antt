@@ -1,10 +1,11 @@
 -- Lemmas on a value of --link, from the pieces that it is split into.
-use Rattle.std.proofs.Common.{◌≡◌, ◌<◌, ℕ, List, Some, None, Bor, length, arith, inl, inr}
+use Rattle.std.proofs.Common.{◌≡◌, ◌∙◌, ℕ, List, Some, None, Bor, true, false, arith, inl, inr, sym}
 use Rattle.std.proofs.lemmas.Str.Pattern.{IsSplitOnceResult}
 use Rattle.std.specs.Net.Grammar.{IsIpv4Text}
 use Rattle.std.specs.Net.Socket.{v4_ip, v4_port}
 use Rattle.std.specs.declared.net.ipv4_addr.Ipv4Addr.{Ipv4Addr}
 use Rattle.std.specs.declared.net.socket_addr.SocketAddrV4.{SocketAddrV4}
+use Rattle.click_classes.specs.Values.{is_device}
 use Rattle.click_prog.specs.Links.{IsAddressed, IsLink, IsNoLink, IsNoPlace, IsPlace, IsUnaddressed}
 use Rattle.click_prog.specs.Numbers.{IsNoNumber, IsNumber}
 use Rattle.click_prog.specs.declared.link.Link.{Link}
@@ -37,11 +38,12 @@ no-place text number unaddressed place is = elim is [ inl own ↦ number (v4_por
 pub no-link-whole : (value : List ℕ) → IsSplitOnceResult 61 value None → IsNoLink value
 no-link-whole value came link is = cut-none 61 value link.device.now is.places came (omega arith) is.device
 
-pub no-link-unnamed : (value : List ℕ) (x : Pieces) → IsSplitOnceResult 61 value (Some x) → length x.0.now ≡ 0 → IsNoLink value
-no-link-unnamed value x came empty link is =
+pub no-link-unnamed : (value : List ℕ) (x : Pieces) → IsSplitOnceResult 61 value (Some x) → is_device x.0.now ≡ false → IsNoLink value
+no-link-unnamed value x came unnamed link is =
     let same = cut-same 61 value link.device.now is.places x came (omega arith) is.device in
-    let named : 0 < length x.0.now = rw same.0 is.named in
-    absurd (omega arith)
+    let named : is_device x.0.now ≡ true = rw same.0 is.named in
+    let bad : false ≡ true = sym unnamed ∙ named in
+    cc
 
 pub no-link-unpaired : (value : List ℕ) (x : Pieces) → IsSplitOnceResult 61 value (Some x) → IsSplitOnceResult 44 x.1.now None → IsNoLink value
 no-link-unpaired value x came whole link is =
@@ -60,7 +62,7 @@ no-link-far value x y came cut none link is =
     let pair = cut-same 44 x.1.now is.near is.far y cut (omega arith) (rw same.1 is.pair) in
     none link.there (rw pair.1 is.there)
 
-pub link-of : (value : List ℕ) (x y : Pieces) (link : Link) → IsSplitOnceResult 61 value (Some x) → IsSplitOnceResult 44 x.1.now (Some y) → link.device ≡ x.0 → 0 < length x.0.now
+pub link-of : (value : List ℕ) (x y : Pieces) (link : Link) → IsSplitOnceResult 61 value (Some x) → IsSplitOnceResult 44 x.1.now (Some y) → link.device ≡ x.0 → is_device x.0.now ≡ true
     → IsPlace y.0.now link.here → IsPlace y.1.now link.there → IsLink value link
 link-of value x y link came cut device named here there = record {
   places = x.1.now;

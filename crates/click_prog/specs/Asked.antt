@@ -84,9 +84,13 @@ Ends found options = options.live ≡ false → (options.links.items ≡ []) × 
 abbrev pub LogsOver : Options → Type 0
 LogsOver options = options.log ≡ true → is_some options.port ≡ true
 
+-- an interval for printing counts was given only with a link
+abbrev pub TellsOfLinks : Found → Options → Type 0
+TellsOfLinks found options = options.links.items ≡ [] → first_value found (codes "every") ≡ None
+
 -- the options are those that clap found, and can be used together
 abbrev pub AsksFor : Found → Options → Type 0
-AsksFor found options = Finds found options × DrawsAlone found options × GoesOn found options × Ends found options × LogsOver options
+AsksFor found options = Finds found options × DrawsAlone found options × GoesOn found options × Ends found options × LogsOver options × TellsOfLinks found options
 
 -- The reason why the options that clap found are refused: a value is not valid, or the options
 -- cannot be used together. Nothing is said of an error of clap.
@@ -99,6 +103,7 @@ IsRefusedFor found (why.NotDrawn option) = (options : Options) × Finds found op
 IsRefusedFor found (why.NotLive option) = (options : Options) × Finds found options × (GoesOn found options → ⊥)
 IsRefusedFor found (why.OnlyLive option) = (options : Options) × Finds found options × (Ends found options → ⊥)
 IsRefusedFor found (why.OnlyOver option) = (options : Options) × Finds found options × (LogsOver options → ⊥)
+IsRefusedFor found (why.OnlyWith pair) = (options : Options) × Finds found options × (TellsOfLinks found options → ⊥)
 IsRefusedFor found (why.Link fault) = IsLinkFault (values_of found (codes "device")) fault
 
 -- a refusal, unless it is an error of clap, is about what some parse found

@@ -15,6 +15,7 @@ use Rattle.click_prog.specs.declared.pcap.carry_fault.CarryFault.{CarryFault}
 use Rattle.click_prog.specs.declared.pcap.carry_fault.CarryFault.TheVariants as carry_fault
 use Rattle.click_prog.specs.declared.pcap.carry_fault.SendFault.{SendFault}
 use Rattle.click_prog.specs.declared.pcap.carry_fault.SendFault.TheVariants as unsent
+use Rattle.click_prog.specs.Buffers.{Grew}
 use Rattle.click_prog.specs.Reading.{Took, TookAll, ReadFails, ReadsHeader, IsCut}
 use Rattle.click_prog.specs.Passages.{PassageState, went, packet_of, Enters, Asked, Gave, Leads}
 
@@ -58,7 +59,6 @@ pub record Carried (h : Header) (had left : Input) (held holds : Output) (old ne
 -- How the packets that the sink returned were written, by the outcome.
 -- Ok: all of them were written, up to the first time that the sink had none.
 -- GivesOn: the sink was asked 1,048,576 times, returned a packet each time, and all are written.
--- NoMemory: all except the last are written.
 -- WriteFailed: all except the last are written, and a prefix of the last.
 abbrev pub SendsAll : {T : Type 0} → Header → Time → PassageState → PassageState → Output → Output → Result T SendFault → Type 0
 SendsAll h time old new held holds (Ok _) =
@@ -66,8 +66,6 @@ SendsAll h time old new held holds (Ok _) =
     × HasWritten held holds (records_at h.order time sent) false
 SendsAll h time old new held holds (Err unsent.GivesOn) =
     (sent : List Packet) × (length sent ≡ 1048576) × Gave old.sink old.router sent new.router × HasWritten held holds (records_at h.order time sent) false
-SendsAll h time old new held holds (Err unsent.NoMemory) =
-    (sent : List Packet) × (last : Packet) × Gave old.sink old.router (sent ++ last ∷ []) new.router × HasWritten held holds (records_at h.order time sent) false
 SendsAll h time old new held holds (Err unsent.WriteFailed) =
     (sent : List Packet) × (last : Packet) × Gave old.sink old.router (sent ++ last ∷ []) new.router
     × ((mid : Output) × HasWritten held mid (records_at h.order time sent) false × WroteFront mid holds (record_bytes h.order (whole time last.bytes)) true)
@@ -85,7 +83,6 @@ Passes {T} h from old new held holds (Err why) =
 -- which it begins
 abbrev pub send_carry_fault : SendFault → ℕ → ℕ → CarryFault
 send_carry_fault unsent.GivesOn number at = carry_fault.GivesOn number at
-send_carry_fault unsent.NoMemory number at = carry_fault.NoMemory
 send_carry_fault unsent.WriteFailed number at = carry_fault.WriteFailed
 
 -- one more record was read, and the run stopped early at it, with this fault
@@ -103,7 +100,7 @@ IsNextAt h records at = at ≡ min (length (capture_bytes h records)) (2 ^ 64 - 
 -- GivesOn: those before a record after which the sink returned a packet each time.
 -- WriteFailed: those before a record during which a write failed, or before a write that failed
 -- between two records.
--- NoMemory: none, or those before a record during which the run was out of memory.
+-- NoMemory: none.
 -- Uncounted: 2^64 - 1 of them.
 abbrev pub Ends : {T : Type 0} → Header → Input → Input → Output → Output → PassageState → PassageState → Result T CarryFault → Type 0
 Ends h had left held holds first new (Ok _) = (records : List Record) × Carried h had left held holds first new records × IsAtEnd left.remaining
@@ -122,10 +119,7 @@ Ends h had left held holds first new (Err carry_fault.WriteFailed) =
     ((records : List Record) × (mid : Input) × (midst : Output) × (before : PassageState) × Carried h had mid held midst first before records
     × Interrupted h mid left midst holds before new unsent.WriteFailed)
     ⊎ ((records : List Record) × (midst : Output) × Carried h had left held midst first new records × HasWritten midst holds [] true)
-Ends h had left held holds first new (Err carry_fault.NoMemory) =
-    Carried h had left held holds first new []
-    ⊎ ((records : List Record) × (mid : Input) × (midst : Output) × (before : PassageState) × Carried h had mid held midst first before records
-    × Interrupted h mid left midst holds before new unsent.NoMemory)
+Ends h had left held holds first new (Err carry_fault.NoMemory) = Carried h had left held holds first new []
 Ends h had left held holds first new (Err carry_fault.Uncounted) = (records : List Record) × Carried h had left held holds first new records × (length records ≡ 2 ^ 64 - 1)
 Ends h had left held holds first new (Err _) = ⊥
 
@@ -160,10 +154,10 @@ CarriesBehind {T} h had left held holds old new result =
 
 -- How a capture was carried through a buffer into a sink. Either everything that the buffer took is
 -- written, and the capture was carried as without a buffer. Or a write failed, as the result says.
--- In this case the sink has a prefix of what the buffer took, which is what some run wrote without
--- a buffer.
+-- In this case the sink has what it held before, followed by a prefix of what the buffer took,
+-- which is what some run wrote without a buffer.
 abbrev pub CarriesThrough : {T : Type 0} → Input → Input → Output → Output → PassageState → PassageState → Result T CarryFault → Type 0
 CarriesThrough {T} had left held holds old new result =
     Carries had left held holds old new result
-    ⊎ ((result ≡ Err carry_fault.WriteFailed) × (holds.failed ≡ true)
+    ⊎ ((result ≡ Err carry_fault.WriteFailed) × (holds.failed ≡ true) × Grew held.contents holds.contents
     × ((taken : Output) × (run : Result T CarryFault) × Carries had left held taken old new run × ((rest : List ℕ) × Appends holds.contents taken.contents rest)))

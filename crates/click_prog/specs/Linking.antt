@@ -3,7 +3,7 @@ use Rattle.std.specs.Prelude.{◌≡◌, ◌⊎◌, ℕ, ◌+◌, ◌++◌, List
 use Rattle.click_streams.specs.Peers.{Input, Output}
 use Rattle.click_desk.specs.BookState.{BookState}
 use Rattle.click_desk.specs.declared.open.OpenFault.{OpenFault}
-use Rattle.click_links.specs.Ends.{Attempt, Hearing}
+use Rattle.click_links.specs.Ends.{Attempt, Hearing, received_over}
 use Rattle.click_links.specs.Forwarding.{sent_by, gifts_by}
 use Rattle.click_links.specs.declared.run.Receiver.{Receiver}
 use Rattle.click_desk.specs.SeatStates.{SeatState}
@@ -25,8 +25,9 @@ use Rattle.click_cli.specs.declared.status.Status.TheVariants as status
 --
 -- There is one history of one thread with exactly their calls and replies (`headline`). Over the
 -- link of each device exactly the packets in the replies to its Transmits in the history were sent,
--- in order, after those sent before (`sent`). What each receiver received is what it dropped, for
--- its cause, what the history polled of its device, and what is left (`links`).
+-- in order, after those sent before (`sent`). Each receiver has the addresses that it had before.
+-- What it received is what it dropped, for its cause, what the history polled of its device, and
+-- what is left (`links`).
 pub record HasLinked {D Rd Wr G Seats Done : Type 0} (sittings : Seats → List SeatState) (many : ℕ) (does : Seats → Seats → Done → Type 0) (lets_in : D → ℕ → Option (Rd × Wr) → Type 0) (input : Rd → Input) (output : Wr → Output) (gives : G → ℕ → ℕ → Bool → Type 0)
     (told : G → ℕ → ℕ → Type 0) (door : D) (readonly : Bool) (text : List ℕ) (places workers turns : ℕ) (receivers : List (Receiver Hearing)) (before : List Attempt) (book : BookState) (ended : List SessionEnd)
     (drivers : List Bool) (after : List Attempt) (ends : List (LinkEnd Hearing)) (done : Done) : Type 0 where
@@ -35,7 +36,7 @@ pub record HasLinked {D Rd Wr G Seats Done : Type 0} (sittings : Seats → List 
   pub work : BesideWork (λ (s : SeatState × Seats). s.0 ∷ sittings s.1) (1 + many) (ForwardsBeside (map (λ (r : Receiver Hearing). r.device) receivers) before after does)
       (AttendedInTurn lets_in input output gives told door gate readonly turns) (DroveFor gives told gate None) places workers book.seats ended drivers done
   pub sent : (device : List ℕ) → sent_by device after ≡ sent_by device before ++ gifts_by device (calls_in book.entries)
-  pub links : SideBySide (λ (r : Receiver Hearing) (e : LinkEnd Hearing). (e.device ≡ r.device) × LinkRan book.entries r.device r.link.came e.link.came e.received.dropped (option_map (λ l. l.items) e.left)) receivers ends
+  pub links : SideBySide (λ (r : Receiver Hearing) (e : LinkEnd Hearing). (e.device ≡ r.device) × LinkRan book.entries r.device (received_over r.link) (received_over e.link) e.received.dropped (option_map (λ l. l.items) e.left)) receivers ends
 
 -- a run of `HasLinked`, with the status of the last sessions of the session slots
 pub record HaveLinked {D Rd Wr G Seats Done : Type 0} (sittings : Seats → List SeatState) (many : ℕ) (does : Seats → Seats → Done → Type 0) (lets_in : D → ℕ → Option (Rd × Wr) → Type 0) (input : Rd → Input) (output : Wr → Output) (gives : G → ℕ → ℕ → Bool → Type 0)

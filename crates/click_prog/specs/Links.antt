@@ -1,16 +1,17 @@
 -- Values of --link as links.
-use Rattle.std.specs.Prelude.{◌≡◌, ℕ, ◌<◌, ◌≤◌, ◌⊎◌, List, [], ◌∷◌, ◌++◌, length, slice_index}
-use Rattle.std.specs.List.{AllPairs, AllZip, Contains, slice_index_or}
+use Rattle.std.specs.Prelude.{◌≡◌, ℕ, ◌<◌, ◌≤◌, ◌⊎◌, List, [], ◌∷◌, ◌++◌, length, slice_index, true}
+use Rattle.std.specs.List.{All, AllPairs, AllZip, Contains, slice_index_or}
 use Rattle.std.specs.Net.Addr.{ipv4_octets}
 use Rattle.std.specs.Net.Grammar.{IsIpv4Text}
 use Rattle.std.specs.Net.Socket.{v4_ip, v4_port}
 use Rattle.std.specs.declared.net.socket_addr.SocketAddrV4.{SocketAddrV4}
 use Rattle.std.specs.declared.net.socket_addr.SocketAddr.TheVariants as socket
+use Rattle.click_classes.specs.Values.{is_device}
 use Rattle.click_links.specs.Ends.{Line}
 use Rattle.click_prog.specs.Numbers.{IsNumber}
 use Rattle.click_prog.specs.declared.link.Link.{Link}
 use Rattle.click_prog.specs.declared.link.LinkFault.{LinkFault}
-use Rattle.click_prog.specs.declared.link.LinkFault.TheVariants.{NoMemory, NoLink, Twice, TooMany}
+use Rattle.click_prog.specs.declared.link.LinkFault.TheVariants.{NoMemory, NoLink, Circle, Twice, TooMany}
 
 -- the text is split at the first one of these bytes
 pub record IsCut (byte : ℕ) (text before after : List ℕ) : Type 0 where
@@ -41,14 +42,14 @@ IsPlace text place = IsOwnPort text place ⊎ IsAddressed text place
 abbrev pub IsNoPlace : List ℕ → Type 0
 IsNoPlace text = (place : SocketAddrV4) → IsPlace text place → ⊥
 
--- The value is a device, then `=`, then two addresses with a comma between them. The device is not
--- empty and has no `=`.
+-- The value is a device, as FromDevice and ToDevice take it, then `=`, then two addresses with a
+-- comma between them.
 pub record IsLink (value : List ℕ) (link : Link) : Type 0 where
   pub places : List ℕ
   pub near : List ℕ
   pub far : List ℕ
   pub device : IsCut 61 value link.device.now places
-  pub named : 0 < length link.device.now
+  pub named : is_device link.device.now ≡ true
   pub pair : IsCut 44 places near far
   pub here : IsPlace near link.here
   pub there : IsPlace far link.there
@@ -61,15 +62,25 @@ IsNoLink value = (link : Link) → IsLink value link → ⊥
 abbrev pub AreApart : Link → Link → Type 0
 AreApart a b = a.device.now ≡ b.device.now → ⊥
 
--- the values are these links, one each, in order: at most 16, no two of one device
+-- the two addresses of the link are different
+abbrev pub HasTwoPlaces : Link → Type 0
+HasTwoPlaces link = link.here ≡ link.there → ⊥
+
+-- the values are these links, one each, in order: at most 16, each with two different addresses, no
+-- two of one device
 pub record AreLinks (values : List (List ℕ)) (links : List Link) : Type 0 where
   pub each : AllZip IsLink values links
   pub few : length links ≤ 16
+  pub distinct : All HasTwoPlaces links
   pub apart : AllPairs AreApart links
 
 -- the value is a link of this device
 abbrev pub IsLinkOf : List ℕ → List ℕ → Type 0
 IsLinkOf value device = (link : Link) × IsLink value link × (link.device.now ≡ device)
+
+-- the value is a link whose two addresses are the same
+abbrev pub IsCircle : List ℕ → Type 0
+IsCircle value = (link : Link) × IsLink value link × (link.here ≡ link.there)
 
 -- one of the values is a link of this device, and so is a later one
 pub record IsTwice (values : List (List ℕ)) (device : List ℕ) : Type 0 where
@@ -84,6 +95,7 @@ pub record IsTwice (values : List (List ℕ)) (device : List ℕ) : Type 0 where
 abbrev pub IsLinkFault : List (List ℕ) → LinkFault → Type 0
 IsLinkFault values NoMemory = Unit {0}
 IsLinkFault values (NoLink value) = Contains values value.now × IsNoLink value.now
+IsLinkFault values (Circle value) = Contains values value.now × IsCircle value.now
 IsLinkFault values (Twice device) = IsTwice values device.now
 IsLinkFault values TooMany = 16 < length values
 

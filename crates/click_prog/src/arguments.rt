@@ -5,7 +5,7 @@ ghost use Rattle.clap.specs.Built.{IsParsedFrom};
 ghost use Rattle.clap.specs.Matches.{first_value, found_of};
 ghost use Rattle.clap.specs.declared.builder.command.Command.{Command};
 ghost use Rattle.clap.specs.declared.parser.matches.ArgMatches.{ArgMatches};
-ghost use Rattle.click_prog.specs.Asked.{AsksFor, DrawsAlone, Ends, Finds, GoesOn, HasNoNumber, HasNoWord, IsGiven, IsGivenOr, IsInRanges, IsMistyped, IsRefused, IsRefusedFor, LogsOver, usual_idle, values_of};
+ghost use Rattle.click_prog.specs.Asked.{AsksFor, DrawsAlone, Ends, Finds, GoesOn, HasNoNumber, HasNoWord, TellsOfLinks, IsGiven, IsGivenOr, IsInRanges, IsMistyped, IsRefused, IsRefusedFor, LogsOver, usual_idle, values_of};
 ghost use Rattle.click_prog.specs.Links.{AreLinks, IsLinkFault};
 
 use crate::link::{Link, LinkFault, links_of};
@@ -63,6 +63,7 @@ pub enum ArgumentRefusal<'a> {
     NotLive(NotLive),
     OnlyLive(OnlyLive),
     OnlyOver(OnlyOver),
+    OnlyWith(OnlyWith),
     Link(LinkFault<'a>),
 }
 
@@ -115,6 +116,14 @@ pub struct OnlyLive {
 #[error("{option} needs -p")]
 pub struct OnlyOver {
     option: &'static str,
+}
+
+/// The option that was given without `partner`, and that has an effect only with it.
+#[derive(Clone, Copy, Debug, Drop, thiserror::Error)]
+#[error("{option} needs {partner}")]
+pub struct OnlyWith {
+    option: &'static str,
+    partner: &'static str,
 }
 
 /// The value of an option that is not a number from `least` to `most` in decimal digits.
@@ -271,8 +280,11 @@ fn options_in<'a>(
     if let Some(option) = live_only_option(matches, &options) {
         return Err(ArgumentRefusal::OnlyLive(OnlyLive { option }));
     }
-    match port_only_option(&options) {
-        Some(option) => Err(ArgumentRefusal::OnlyOver(OnlyOver { option })),
+    if let Some(option) = port_only_option(&options) {
+        return Err(ArgumentRefusal::OnlyOver(OnlyOver { option }));
+    }
+    match partner_option(matches, &options) {
+        Some(pair) => Err(ArgumentRefusal::OnlyWith(pair)),
         None => Ok(options),
     }
 }
@@ -442,6 +454,19 @@ fn port_only_option(options: &Options) -> Option<&'static str>
     } else {
         None
     }
+}
+
+/// Returns the option that was given without the option with which alone it has an effect.
+fn partner_option(matches: &ArgMatches, options: &Options) -> Option<OnlyWith>
+    ensures { MatchOption result (TellsOfLinks (found_of matches.now) options.now) (λ _. TellsOfLinks (found_of matches.now) options.now → ⊥) }
+{
+    if options.links.is_empty() && matches.get_str("every").is_some() {
+        return Some(OnlyWith {
+            option: "--tell",
+            partner: "--link",
+        });
+    }
+    None
 }
 
 /// Returns the port that was given to an option, if one was.

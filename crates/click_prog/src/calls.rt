@@ -110,17 +110,17 @@ fn replayed_status(replayed: &ReplayOutcome) -> Status
     }
 }
 
-/// Prints which line is not a call, if that is the fault.
+/// Prints the fault, but nothing for out of memory: a line that is not a call, or a device that
+/// failed.
 fn tell_fault(rt: &HostRuntime, calls_fault: CallsFault) -> Status
     ensures { result ≡ fault_status calls_fault }
 {
-    match calls_fault {
-        CallsFault::Line { .. } => {
-            // A failed write does not change the status.
-            let _ = rt.eprintln(&calls_fault);
-            Status::Wrong
-        }
-        CallsFault::NoMemory => Status::NoMemory,
+    let status = match calls_fault {
+        CallsFault::Line { .. } => Status::Wrong,
+        CallsFault::NoMemory => return Status::NoMemory,
         CallsFault::DeviceFailed => Status::DeviceFailed,
-    }
+    };
+    // A failed write does not change the status.
+    let _ = rt.eprintln(&calls_fault);
+    status
 }

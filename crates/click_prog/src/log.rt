@@ -89,6 +89,7 @@ pub struct PageLog<'a> {
 }
 
 impl<'a> PageLog<'a> {
+    /// Returns the log of a page, which writes lines only if it is on.
     pub fn new(host: &'a HostRuntime, is_on: bool) -> PageLog<'a> {
         PageLog { host, is_on }
     }

@@ -196,6 +196,7 @@ fn refused(host: &HostRuntime, refusal: &ArgumentRefusal) -> Status {
         ArgumentRefusal::NotLive(option) => eprintln!(host; "click_prog: {option}"),
         ArgumentRefusal::OnlyLive(option) => eprintln!(host; "click_prog: {option}"),
         ArgumentRefusal::OnlyOver(option) => eprintln!(host; "click_prog: {option}"),
+        ArgumentRefusal::OnlyWith(pair) => eprintln!(host; "click_prog: {pair}"),
         ArgumentRefusal::Link(fault) => eprintln!(host; "click_prog: {fault}"),
     };
     Status::Wrong

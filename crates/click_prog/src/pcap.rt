@@ -16,7 +16,7 @@ pub mod status;
 pub mod tally;
 
 use crate::pcap::arguments::options_of;
-use crate::pcap::buffered::{BUFFER_BYTES, Buffered};
+use crate::pcap::buffered::BUFFER_BYTES;
 use crate::pcap::capture_router::{CaptureRouter, PassageFault};
 use crate::pcap::carry_fault::CarryFault;
 use crate::pcap::carrying::carry;
@@ -72,11 +72,10 @@ fn carry_standard(
     let Ok(input) = BufReader::with_capacity(alloc, BUFFER_BYTES, rt.stdin()) else {
         return Err(CarryFault::NoMemory);
     };
-    let Ok(mut writer) = Buffered::new(alloc, Writing::new(rt.stdout())) else {
-        return Err(CarryFault::NoMemory);
-    };
     let mut reader = Reading::new(input);
-    carry(alloc, passage, &mut reader, &mut writer, tally)
+    let writer = Writing::new(rt.stdout());
+    let (_, ended) = carry(alloc, passage, &mut reader, writer, tally);
+    ended
 }
 
 /// Prints the fault at which a run stopped early.

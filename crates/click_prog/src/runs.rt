@@ -20,9 +20,9 @@ use click_handlers::{Table, TakesTable};
 use click_http::{HttpListener, open_http_listener};
 use click_router::{Handlers, prepare};
 use click_streams::{Reading, Sink, Source, Writing};
-use click_workers::{Door, Gate, Listening, OpenGate};
+use click_workers::{Connection, Door, Gate, Listening, OpenGate};
 use std::io::{self, Stdin, Stdout};
-use std::net::{TcpListener, TcpStream};
+use std::net::TcpListener;
 use std::sync::Wait;
 use std::thread::Threads;
 use std::time::Duration;
@@ -154,23 +154,24 @@ fn serve_source<T: Handlers + Send + Drop, R: Threads + Wait + Sync>(
     ensures alone { session_source ≡ SessionSource.Standard → is_alone (is_some links || is_some page) setup.entry.plan ≡ true → RunsAlone setup.entry.text.now setup.entry.plan.readonly result }
     ensures standard { session_source ≡ SessionSource.Standard → is_alone (is_some links || is_some page) setup.entry.plan ≡ false → ServesFrom ⟦<Standard as Door>⟧.lets_in ⟦<Reading<Stdin> as Source>⟧.input
         ⟦<Writing<Stdout> as Sink>⟧.output ⟦<OpenGate as Gate>⟧.gives ⟦<OpenGate as Gate>⟧.told links (option_map (λ p. p.port) page) setup.entry.plan setup.entry.text.now 1 result }
-    ensures over { (listener : TcpListener) (idle_limit : Option Duration) (logged : Bool) → session_source ≡ SessionSource.Over listener idle_limit logged → ServesFrom ⟦<Listening<'static, HostRuntime, SessionLog<'static>> as Door>⟧.lets_in ⟦<Reading<TcpStream> as Source>⟧.input
-        ⟦<Writing<TcpStream> as Sink>⟧.output ⟦<OpenGate as Gate>⟧.gives ⟦<OpenGate as Gate>⟧.told links (option_map (λ p. p.port) page) setup.entry.plan setup.entry.text.now
+    ensures over { (listener : TcpListener) (idle_limit : Option Duration) (logged : Bool) → session_source ≡ SessionSource.Over listener idle_limit logged → ServesFrom ⟦<Listening<'static, HostRuntime, SessionLog<'static>> as Door>⟧.lets_in ⟦<Reading<Connection> as Source>⟧.input
+        ⟦<Writing<Connection> as Sink>⟧.output ⟦<OpenGate as Gate>⟧.gives ⟦<OpenGate as Gate>⟧.told links (option_map (λ p. p.port) page) setup.entry.plan setup.entry.text.now
         (turns_of (is_some links || setup.entry.plan.live)) result }
 {
     let sessions = SessionCounts::new();
     match session_source {
         SessionSource::Standard if is_alone(&setup.plan, links.is_some() || page.is_some()) => {
             let (status, _, _) = session(rt, host, table, setup, host.stdin(), host.stdout());
-            status
+            tell_failed_device(host, status)
         }
         SessionSource::Standard => {
             let door = Standard::new(host.stdin(), host.stdout());
             let arrivals = Arrivals::open(&door, 1);
             let page_log = PageLog::new(host, false);
-            serve_at(
+            let status = serve_at(
                 rt, host, table, setup, arrivals, links, page, &page_log, &sessions,
-            )
+            );
+            tell_failed_device(host, status)
         }
         SessionSource::Over(listener, idle_limit, logged) => {
             let log = SessionLog::new(host, &sessions, logged);
@@ -183,6 +184,18 @@ fn serve_source<T: Handlers + Send + Drop, R: Threads + Wait + Sync>(
             )
         }
     }
+}
+
+/// Prints a line if standard input or output failed, which this status of a run says. Returns the
+/// status.
+fn tell_failed_device(host: &HostRuntime, status: Status) -> Status
+    ensures { result ≡ status }
+{
+    if status == Status::DeviceFailed {
+        // A failed write does not change the status.
+        let _ = eprintln!(host; "click_prog: a read or a write failed");
+    }
+    status
 }
 
 /// Serves sessions that come in at a door, with links and a page if these are opened. The metrics of

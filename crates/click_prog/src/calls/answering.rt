@@ -22,7 +22,7 @@ pub enum CallsFault {
     Line { number: u64, fault: LineFault },
     #[error("out of memory")]
     NoMemory,
-    #[error("a read or a write failed")]
+    #[error("error: a read or a write failed")]
     DeviceFailed,
 }
 

@@ -2,52 +2,81 @@
 //!
 //! perf: one write of the sink takes many bytes.
 
-ghost use Rattle.std.specs.Prelude.{◌≡◌, ◌+◌, ◌<◌, ◌≤◌, [], ◌++◌, length, drop, is_err, IfOk, OnOk, OnErr, true, false, vec_len, vec_capacity};
+ghost use Rattle.std.specs.Prelude.{◌≡◌, ◌+◌, ◌<◌, ◌≤◌, [], ◌++◌, length, drop, is_err, OnOk, OnErr, true, false, vec_len, vec_capacity};
 ghost use Rattle.click_streams.specs.Peers.{HasWritten};
-ghost use Rattle.click_prog.specs.Buffers.{taken};
+ghost use Rattle.click_prog.specs.Buffers.{taken, Grew};
 
 use click_streams::{Failed, Sink};
-use std::alloc::{AllocError, Global};
-use std::marker::Model;
+use std::marker::{Brand, Model, PhantomData};
 
 /// The maximum number of bytes in a buffer.
 pub const BUFFER_BYTES: usize = 65_536;
 
+/// What a sink held when its buffer was made, as ghost state of a type.
+pub trait SinkStart {
+    ghost use Rattle.std.specs.Prelude.{ℕ, List, Option};
+
+    ghost held: { Option (List ℕ) };
+}
+
+impl SinkStart for Brand {
+    ghost use Rattle.std.specs.Prelude.{None};
+
+    ghost held = { None };
+}
+
 /// A sink with a buffer of bytes that are not written yet. They are written when the buffer is
-/// full, and by `flush`.
+/// full, and by `flush`. By its invariant the sink still begins with what it held when the buffer
+/// was made.
 #[derive(Drop)]
-pub struct Buffered<O: Sink> {
+pub struct Buffered<O: Sink, B: SinkStart> {
     sink: O,
     held: Vec<u8>,
     /// Whether a write of the sink has failed.
     failed: bool,
+    of: PhantomData<B>,
 }
 
-impl<O: Sink> Model for Buffered<O> {
+impl<O: Sink, B: SinkStart> Model for Buffered<O, B> {
     ghost use Rattle.std.specs.Prelude.{◌≡◌, ◌≤◌, vec_capacity};
-    ghost use Rattle.click_prog.specs.Buffers.{BufferState};
+    ghost use Rattle.click_prog.specs.Buffers.{BufferState, Grew};
 
     ghost Value = { BufferState O };
 
     ghost view = { λ b. record { sink = b.sink; held = b.held.items } };
 
-    ghost invariant = { λ b. (b.failed ≡ (O.output b.sink).failed) × (65536 ≤ vec_capacity b.held) };
+    ghost invariant = { λ b. (b.failed ≡ (O.output b.sink).failed) × (65536 ≤ vec_capacity b.held) × Grew B.held (O.output b.sink).contents };
 }
 
-impl<O: Sink> Buffered<O> {
-    /// Returns an empty buffer. Allocates all the memory that it ever needs.
-    pub fn new(alloc: Global, sink: O) -> Result<Self, AllocError>
-    where
-        O: Drop,
-        requires { (O.output sink).failed ≡ false }
-        ensures { IfOk result (λ buffered. (buffered.sink ≡ sink) × (buffered.held ≡ [])) }
+impl<O: Sink, B: SinkStart> Buffered<O, B> {
+    /// Returns a buffer that uses the memory of an empty vector, all that it ever needs.
+    pub fn new(held: Vec<u8>, sink: O) -> Self
+        requires empty { held.items ≡ [] }
+        requires room { 65536 ≤ vec_capacity held }
+        requires good { (O.output sink).failed ≡ false }
+        requires start { B.held ≡ (O.output sink).contents }
+        ensures { (result.sink ≡ sink) × (result.held ≡ []) }
     {
-        let held = Vec::with_capacity(alloc, BUFFER_BYTES)?;
-        Ok(Buffered {
+        Buffered {
             sink,
             held,
             failed: false,
-        })
+            of: PhantomData,
+        }
+    }
+
+    /// Returns the sink. Bytes that are still in the buffer are lost.
+    pub fn into_sink(self) -> O
+        ensures same { result ≡ self.sink }
+        ensures grew { Grew B.held (O.output result).contents }
+    {
+        let Buffered {
+            sink,
+            held: _,
+            failed: _,
+            of: _,
+        } = self;
+        sink
     }
 
     /// Writes the whole buffer, in as many writes as necessary.
@@ -91,7 +120,7 @@ impl<O: Sink> Buffered<O> {
     }
 }
 
-impl<O: Sink> Sink for Buffered<O> {
+impl<O: Sink, B: SinkStart> Sink for Buffered<O, B> {
     ghost output = { λ b. taken O.output b };
 
     fn write(&mut self, bytes: &[u8]) -> Result<usize, Failed> {

@@ -1,13 +1,13 @@
 //! The router of a run: packets enter at the source of one device and leave at the sink of another.
 
-ghost use Rattle.std.specs.Prelude.{◌≡◌, ◌<◌, ◌≤◌, length, IfOk, IfErr, OnOk, OnErr};
+ghost use Rattle.std.specs.Prelude.{◌≡◌, ◌<◌, ◌≤◌, length, true, false, None, Some, IfOk, IfErr, OnOk, OnErr};
 ghost use Rattle.click_router.specs.Opened.{IsOpened};
 ghost use Rattle.click_prog.specs.Passages.{went, packet_of, Enters, Asked};
 ghost use Rattle.click_prog.specs.PassageFaults.{IsConfigFault, IsNoPassage};
 
 use click_base::sequence::Sequence;
 use click_packet::{Packet, TooLong};
-use click_router::{ConfigFault, FaultKind, Reply, Router, prepare};
+use click_router::{ConfigFault, FaultKind, Router, prepare};
 use std::alloc::{AllocError, Global};
 use std::marker::Model;
 
@@ -110,15 +110,14 @@ impl CaptureRouter {
         Ok(())
     }
 
-    /// Asks the sink for a packet, and returns it if there is one.
-    pub fn sent(&mut self) -> Option<Packet>
-        ensures asked { Asked self.old.sink self.old.router result self.new.router }
+    /// Asks the sink for a packet, and copies it into `packet`. Returns false, and leaves `packet`
+    /// unchanged, if there is none.
+    pub fn send_into(&mut self, packet: &mut Packet) -> bool
+        ensures some { result ≡ true → Asked self.old.sink self.old.router (Some packet.new) self.new.router }
+        ensures none { result ≡ false → Asked self.old.sink self.old.router None self.new.router × (packet.new ≡ packet.old) }
         ensures ends { self.new ≡ went self.old self.new.router }
     {
-        match self.router.transmit(self.sink.as_slice()) {
-            Reply::Sent(packet) => packet,
-            // The router has the sink.
-            _ => unreachable!(),
-        }
+        // The router has the sink.
+        self.router.transmit_into(self.sink.as_slice(), packet)
     }
 }

@@ -48,6 +48,5 @@ pub enum CarryFault {
 pub enum SendFault {
     /// The sink returned a packet each time that it was asked.
     GivesOn,
-    NoMemory,
     WriteFailed,
 }

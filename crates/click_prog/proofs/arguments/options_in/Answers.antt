@@ -11,3 +11,6 @@ returns-in-Some-live_only_option-clause-refused c = (c.in_ok-options.options, c.
 
 pub returns-in-Some-port_only_option-clause-refused : goal.returns-in-Some-port_only_option-clause-refused
 returns-in-Some-port_only_option-clause-refused c = (c.in_ok-options.options, c.in_ok-options.ensures.found, c.in-Some-port_only_option.ensures)
+
+pub returns-in-Some-partner_option-clause-refused : goal.returns-in-Some-partner_option-clause-refused
+returns-in-Some-partner_option-clause-refused c = (c.in_ok-options.options, c.in_ok-options.ensures.found, c.in-Some-partner_option.ensures)

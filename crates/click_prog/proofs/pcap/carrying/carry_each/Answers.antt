@@ -56,7 +56,7 @@ returns-in-Err-TooLong g c = λ had held first h.
     carried-flushed c.args.header.now had (input c.loop-before.reader) held (output c.loop-before.writer) (output c.flush_before_wait.new.writer) first c.loop-before.passage so_far.0
     so_far.1 c.in_default.ensures.ok in
     let read = rw c.in-Err-TooLong.field-0-is at c.in-Err-TooLong.ensures.reads in
-    rw c.in-Err-TooLong.field-0-is (so_far.0, input c.loop-before.reader, flushed, ap (λ (n : ℕ). n + 1) (sym so_far.2), read, so_far.3)
+    (so_far.0, input c.loop-before.reader, flushed, ap (λ (n : ℕ). n + 1) (sym so_far.2), read, so_far.3)
 
 pub returns-in-Err-carry_packet : goal.returns-in-Err-carry_packet
 returns-in-Err-carry_packet g c = λ had held first h.

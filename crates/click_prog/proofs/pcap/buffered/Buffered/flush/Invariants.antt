@@ -1,9 +1,9 @@
 use Rattle.std.proofs.Common.{◌≡◌, ◌≤◌, [], length, false, vec_capacity}
 use Rattle.click_streams.specs.Peers.{HasWritten}
-use Rattle.click_prog.specs.Buffers.{taken}
+use Rattle.click_prog.specs.Buffers.{taken, Grew}
 use Rattle.click_prog.proofs.pcap.buffered.Buffered.flush.Given as goal
 
--- the bytes that were taken are written or in the buffer, and no write has failed
+-- The bytes that were taken are written or in the buffer, the sink grew, and no write has failed.
 abbrev pub invariant-loop-self : goal.invariant-loop-self
 invariant-loop-self g l =
     let output = g.O.Sink.output in
@@ -12,6 +12,7 @@ invariant-loop-self g l =
       good : l.self-inside.failed ≡ false;
       sound : (output l.self-inside.sink).failed ≡ false;
       room : 65536 ≤ vec_capacity l.self-inside.held;
+      grew : Grew g.B.SinkStart.held (output l.self-inside.sink).contents;
     }
 
 abbrev pub decreases-loop-self : goal.decreases-loop-self
