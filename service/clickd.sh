@@ -8,8 +8,8 @@
 #   clickd reload FILE OPTION..   swaps the text of FILE into that router.
 #
 # The OPTIONs are those of click_prog, with -p PORT. The exit status is 1 if the router refuses the
-# text, 2 if the words or the file are wrong, and 4 if no router answers. After `run` it is that of
-# click_prog.
+# text, and 2 if the words or the file are wrong. It is 4 if no router answers, also if only the
+# reply to a swap is missing. After `run` it is that of click_prog.
 set -eu
 bin=$(cd "$(dirname "$(readlink -f "$0")")/../../bin" && pwd)
 # An argument of a program in Linux has at most 131,072 bytes, with the byte at its end.
@@ -17,10 +17,6 @@ max_argument_bytes=131071
 # A configuration has at most 1 MiB, as the payload of a control session.
 max_text_bytes=1048576
 wait_seconds=60
-# The C library takes blocks of at least this number of bytes from the system, and returns them when
-# they are free. Without the variable it raises its limit with the blocks that become free, and keeps
-# the memory of large queues. The file NAME.conf can set another value.
-export MALLOC_MMAP_THRESHOLD_=${MALLOC_MMAP_THRESHOLD_:-131072}
 # A session may have to wait for a free session slot, and a swap for other calls.
 reply_seconds=60
 
@@ -51,14 +47,18 @@ find_port() {
     stop 2 "-p: '$port' is not a number from 1 to 65535 in decimal digits"
 }
 
-# read_text FILE: leaves the text of the file in $text. $is_argument is not empty if it can be an
-# argument of a program. Such a text is not too long, has no byte 0, and is UTF-8.
+# read_text FILE: leaves the text of the file in $text and its length in $size. $is_argument is not
+# empty if it can be an argument of a program. Such a text is not too long, has no byte 0, and is
+# UTF-8.
 read_text() {
-    local size LC_ALL=C
+    local LC_ALL=C
     [ -f "$1" ] || stop 2 "$1: there is no such file"
     [ -r "$1" ] || stop 2 "$1: the file cannot be read by $(id -un 2> /dev/null || id -u); make it readable by all (chmod a+r)"
     size=$(stat -L -c %s "$1")
     if [ "$size" -gt $max_text_bytes ]; then stop 2 "$1: the text has $size bytes, and at most $max_text_bytes are allowed"; fi
+    # A program that failed while it wrote the file leaves such a text, and a swap to it would remove
+    # all queues and counts.
+    grep -qa '[^[:space:]]' "$1" || stop 2 "$1: the text is empty or has only white space; a comment is enough for a router without elements"
     text='' is_argument=''
     if [ "$size" -le $max_argument_bytes ]; then
         # The last byte 0 that `read` looks for is not in a text, so it reads the whole file.
@@ -70,11 +70,20 @@ read_text() {
 # run FILE OPTION..: becomes the router. If the text cannot be an argument, the router starts with
 # an empty configuration, and `wait` swaps the text in.
 run() {
-    local file=$1 word live=--live
+    local file=$1 word live=--live is_readonly=''
     shift
     find_port "$@"
     read_text "$file"
-    for word; do if [ "$word" = --live ]; then live=''; fi; done
+    for word; do
+        case $word in
+        --live) live='' ;;
+        --readonly) is_readonly=1 ;;
+        esac
+    done
+    if [ -z "$is_argument" ] && [ -n "$is_readonly" ]; then
+        stop 2 "$file: the text has $size bytes; with --readonly at most $max_argument_bytes bytes of UTF-8 without a byte 0 are allowed" \
+            'another text is swapped in after the start, which --readonly refuses: change the text, or leave out --readonly'
+    fi
     if [ -z "$is_argument" ]; then
         text=''
         echo "clickd: $file: the text cannot be an argument, so the router starts empty until the text is swapped in" >&2
@@ -140,16 +149,27 @@ reload() {
     find_port "$@"
     read_text "$file"
     if [ -x "$bin/clickctl" ] && command -v python3 > /dev/null; then
-        "$bin/clickctl" -p "$port" --timeout $reply_seconds swap "$file" || stop $? "$file: the swap failed, and the router goes on unchanged"
+        "$bin/clickctl" -p "$port" --timeout $reply_seconds swap "$file" || not_swapped $? "$file"
     else
         swap "$file"
     fi
     echo "clickd: $file: swapped in"
 }
 
+# not_swapped STATUS FILE: stops with this status of clickctl, and says what it means for the router.
+# Only after a refusal, or if nothing was sent, the router is known to be unchanged.
+not_swapped() {
+    case $1 in
+    1) stop 1 "$2: the swap was refused, and the router goes on unchanged" ;;
+    2) stop 2 "$2: nothing was sent, and the router goes on unchanged" ;;
+    *) stop "$1" "$2: the router did not confirm the swap; it may have done it, or still do it" \
+        "to see what it runs: clickctl -p $port read config | cmp - $2" ;;
+    esac
+}
+
 # swap FILE: swaps the text in by a control session.
 swap() {
-    local line='' reply=''
+    local line='' reply='' why='the router ended the session without a complete reply'
     copy=$(mktemp)
     trap 'rm -f "$copy"' EXIT
     cat "$1" > "$copy"
@@ -159,14 +179,16 @@ swap() {
         cat "$copy"
         printf 'QUIT\n'
     } >&3 2> /dev/null || true
-    while IFS= read -r -t $reply_seconds line <&3; do
+    while IFS= read -r -t $reply_seconds line <&3 || { if [ $? -gt 128 ]; then why="no complete reply within $reply_seconds s"; fi && false; }; do
         reply=${line%$'\r'}
         case $reply in ???-*) ;; *) break ;; esac
     done
     case $reply in
     '200 Write handler'*) ;;
     [0-9][0-9][0-9]' '*) stop 1 "$1: the swap was refused, and the router goes on unchanged: ${reply#520 }" ;;
-    *) stop 4 "$1: the router ended the session without a reply" ;;
+    *)
+        echo "clickd: $1: $why" >&2
+        not_swapped 4 "$1" ;;
     esac
 }
 
