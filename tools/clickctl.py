@@ -288,9 +288,38 @@ def swaps_texts(port: int) -> None:
     does(port, "read config", b"Idle -> Discard;\n")
     does(port, "write hotconfig -", given=text)
     does(port, "read config", text)
-    does(port, "swap -", given=b" " * 1_048_576)
+    does(port, "swap -", given=b"/" * 1_048_576)
     does(port, "read list", b"0\n")
-    does(port, "swap -", given=b" " * 1_048_577, err=b"clickctl: the data has more than 1048576 bytes\n", status=2)
+    does(port, "swap -", given=b"/" * 1_048_577, err=b"clickctl: <stdin>: the text has more than 1048576 bytes\n", status=2)
+    does(port, "write hotconfig -", given=b"/" * 1_048_577, err=b"clickctl: the data has more than 1048576 bytes\n", status=2)
+
+
+def refuses_empty_texts(port: int) -> None:
+    """Checks that no text without a word or a sign is sent, and that `write` can send it."""
+    why = "the text is empty or has only white space; `clickctl write hotconfig ''` removes all elements"
+    with tempfile.TemporaryDirectory() as folder:
+        # White space by docs/LANGUAGE.md, and as many blanks as a session carries.
+        for text in (b"", b"\n", b" \t\n\r\v\f\r\n", b" " * 1_048_576):
+            with open(f"{folder}/new.click", "wb") as file:
+                file.write(text)
+            does(port, "swap new.click", err=f"clickctl: new.click: {why}\n".encode(), status=2, cwd=folder)
+            does(port, "swap -", err=f"clickctl: <stdin>: {why}\n".encode(), status=2, given=text)
+            does(port, "read config", CONFIG)
+        with open(f"{folder}/long.click", "wb") as file:
+            file.write(b"/" * 1_048_577)
+        does(port, "swap long.click", err=b"clickctl: long.click: the text has more than 1048576 bytes\n", status=2, cwd=folder)
+    with FakeRouter({}) as fake:
+        does(fake.port, "swap -", err=f"clickctl: <stdin>: {why}\n".encode(), status=2)
+        same([], fake.commands, "what was sent for an empty text")
+    does(port, "swap -", given=b"/**/")
+    does(port, "read list", b"0\n")
+    does(port, "swap -", given=CONFIG)
+    does(port, ["write", "hotconfig", ""])
+    does(port, "read list", b"0\n")
+    with Client(port) as session:
+        session.swap(CONFIG)
+        session.swap("")
+        same(b"0\n", session.read("list"), "the elements after a swap of the library to an empty text")
 
 
 def points_at_faults(port: int) -> None:
@@ -527,7 +556,7 @@ def reports_no_router(_: int) -> None:
 
 
 def finds_no_router(port: int) -> None:
-    for words in ("read k.count", "write s.switch 1", "swap /dev/null", "check k.count", "list", "wait k.count 1 30"):
+    for words in ("read k.count", "write s.switch 1", f"swap {CLIENTS}/clickctl", "check k.count", "list", "wait k.count 1 30"):
         does(port, words, err=b"clickctl: 127.0.0.1:PORT: cannot connect: Connection refused\n", status=4)
     does(port, f"-h 127.0.0.2 read k.count -p {port}", err=b"clickctl: 127.0.0.2:PORT: cannot connect: Connection refused\n", status=4)
 
@@ -662,6 +691,7 @@ CHECKS: dict[str, tuple[Callable[[int], None], str]] = {
     "flat": (reads_flat_forms, "the elements of each example are found"),
     "handlers": (lists_all_handlers, "the handlers of each class are listed"),
     "swap": (swaps_texts, "a text is installed byte by byte"),
+    "empty": (refuses_empty_texts, "an empty text is not swapped in"),
     "caret": (points_at_faults, "a refused text is shown with a caret at its fault"),
     "watch": (watches_values, "watch prints values and rates"),
     "driver": (watches_a_driver, "watch shows the rate of a driver"),

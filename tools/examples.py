@@ -498,7 +498,7 @@ def pictures(row):
     texts += [*lines_of("examples/opens.txt"), *(it.split("\t", 1)[1] for it in lines_of("examples/faults.txt")), "Idle -> Null;" * 2048, "Idle;" * 4097, *FRAMES]
     drawn = sum(draws(prog, text) for text in texts)
     with open("/dev/full", "wb") as full:
-        answered(ran([prog, "--draw", "-e", COUNTER], stdout=full), "a picture that cannot be written", status=4)
+        answered(ran([prog, "--draw", "-e", COUNTER], stdout=full), "a picture that cannot be written", err=b"click_prog: a write failed\n", status=4)
     return f"the picture is as it shows; {drawn} texts drawn, {len(texts) - drawn} refused"
 
 
@@ -542,11 +542,11 @@ def arguments(row):
     return f"{len(rows)} command lines answered"
 
 
-def fails_at_devices(prog, text, given, greeting):
-    """Checks that a full output and a closed standard input end the program with status 4."""
+def fails_at_devices(prog, text, given, greeting, line):
+    """Checks that a full output and a closed standard input end the program with status 4 and a line."""
     with open("/dev/full", "wb") as full:
-        answered(ran([*prog, "-e", text], given, stdout=full), "a full device", status=4)
-    answered(ran([*prog, "-e", ""], None, preexec_fn=lambda: os.close(0)), "closed standard input", out=greeting, status=4)
+        answered(ran([*prog, "-e", text], given, stdout=full), "a full device", err=line, status=4)
+    answered(ran([*prog, "-e", ""], None, preexec_fn=lambda: os.close(0)), "closed standard input", out=greeting, err=line, status=4)
 
 
 def limits(row):
@@ -561,7 +561,7 @@ def limits(row):
         ("a payload that lacks a byte", payload + "\0" * 1048575, greeting),
     ):
         answered(ran([prog, "-e", COUNTER], sent.encode()), what, out=wanted.encode())
-    fails_at_devices([prog], "", bytes_of("examples/counter.session"), GREETING)
+    fails_at_devices([prog], "", bytes_of("examples/counter.session"), GREETING, b"click_prog: a read or a write failed\n")
     return "the longest lines and payloads, and devices that fail"
 
 
@@ -581,7 +581,7 @@ def call_limits(row):
     answered(ran([*calls, "-e", text], sent), "arguments through sixty compounds", out=b"entered 1\nsent 0b 0 0.0.0.0\nentered 1\nsent 0102 0 0.0.0.0\n")
     given, config = bytes_of(f"{folder}/counter.calls"), text_of(f"{folder}/counter.click").rstrip("\n")
     answered(ran([*calls, "-e", "Counter -> Discard;"], given), "a faulty configuration", err=b"31 Count at Counter@1 inputs 0\n", status=1)
-    fails_at_devices(calls, config, given, b"")
+    fails_at_devices(calls, config, given, b"", b"error: a read or a write failed\n")
     step_by_step([*calls, "-e", config], given, bytes_of(f"{folder}/counter.out"))
     return "arguments through sixty compounds, devices that fail, and each reply before the next call"
 
@@ -617,7 +617,7 @@ def commands(row):
     """Checks the commands of README.
 
     The first command that begins with ./run.sh is shown with --quick and without, and prints the
-    block after `which answers`. The capture prints what the page has after `which says`. The
+    block after `The replies are`. The capture prints what the page has after `The line is`. The
     toolchain is the one that the page names. tools/run_sh_test.sh tests --quick.
     """
     page = row.pages[0]
@@ -625,8 +625,8 @@ def commands(row):
     quick, command = [*(it.strip() for it in lines if it.startswith("    ./run.sh")), None, None][:2]
     if not command or quick != command.replace("./run.sh ", "./run.sh --quick ", 1):
         fail(f"the first two indented lines of {page} that begin with ./run.sh are not one command, with --quick and without")
-    wanted = block_after(lines, "which answers")
-    is_there(wanted, f"the block after 'which answers' in {page}")
+    wanted = block_after(lines, "The replies are")
+    is_there(wanted, f"the block after 'The replies are' in {page}")
     # If another program is checked, ./run.sh is a link to it, next to the files that the command
     # reads.
     with in_folder(("run.sh", program("click_prog")), ("crates", f"{TOP}/crates")) as folder:
@@ -635,9 +635,9 @@ def commands(row):
     # The command may continue on further lines, after backslashes. Its output file is written to a
     # temporary folder.
     capture = re.search(r"^    (crates/click_prog/out/click_prog --pcap (?:.*\\\n)*.*)$", text, re.M)
-    says = re.search(r"^which says `(.*)`\.$", text, re.M)
+    says = re.search(r"^The line is `(.*)`\.$", text, re.M)
     if not capture or not says:
-        fail(f"{page} has no capture command, or no line 'which says'")
+        fail(f"{page} has no capture command, or no line 'The line is'")
     with in_folder(("crates/click_prog/out/click_prog", program("click_prog --pcap")), ("examples", f"{TOP}/examples")) as folder:
         answered(ran(["bash", "-c", capture[1]], cwd=folder), f"{page}'s capture", err=says[1].encode() + b"\n")
         is_there(os.path.exists(f"{folder}/out.pcap") and os.path.getsize(f"{folder}/out.pcap"), f"what {page}'s capture writes")
@@ -652,8 +652,8 @@ def tries(row):
     """Checks the commands that compile and run a program without its proofs (`rt try`).
 
     Each is an indented `cd crates/..` and the indented line after it. Its output is the stored
-    output of that folder, or that of the calls that the command reads. If a block after `which
-    answers` comes before the next such command, it is the output too.
+    output of that folder, or that of the calls that the command reads. If a block after `The
+    replies are` comes before the next such command, it is the output too.
     """
     page = row.pages[0]
     lines = lines_of(page)
@@ -668,7 +668,7 @@ def tries(row):
         came = ran(["bash", "-c", command.strip()], seconds=900, cwd=f"{TOP}/{folder}")
         same(bytes_of(answer), came.out, f"in {folder}, {command.strip()}")
         same(0, came.status, f"the status in {folder} of {command.strip()}")
-        shown = block_after(lines[at:end], "which answers")
+        shown = block_after(lines[at:end], "The replies are")
         if shown:
             same(shown, came.out.replace(b"\r", b""), f"in {folder}, {command.strip()}, and what {page} shows")
     return f"{len(places)} programs tried in their folders as it shows"

@@ -22,6 +22,7 @@ from sessions import GREETING, SECONDS, Router, Session, Wrong, all_at_once, fre
 COUNTER = b"Idle -> c :: Counter -> Discard;"
 SOURCE = b"InfiniteSource(ab, 1000000, 1) -> c :: Counter -> Discard;"
 GOODBYE = b"200 Goodbye!\r\n"
+FAILED = b"click_prog: a read or a write failed\n"
 NO_MEMORY = b"520 Out of memory\r\n"
 MEGABYTE = 1 << 20
 # The maximum difference, in KB, between the peak memory of a long run and that of a short one.
@@ -154,12 +155,14 @@ class Alone(Session):
 
 
 def ended(what, wanted, status, words, **how):
-    """Checks that a run ends with this status and standard output, and an empty standard error.
+    """Checks that a run ends with this status and standard output. Status 4 comes with a line on
+    standard error, and other statuses without.
 
     If standard output is not read, `wanted` is empty.
     """
     it = subprocess.run(words, stderr=subprocess.PIPE, timeout=SECONDS, check=False, **how)
-    if (it.stdout or b"", it.stderr, it.returncode) != (wanted, b"", status):
+    said = FAILED if status == 4 else b""
+    if (it.stdout or b"", it.stderr, it.returncode) != (wanted, said, status):
         raise Wrong(f"{what}: status {it.returncode}, {it.stdout!r} and {it.stderr!r}")
 
 

@@ -20,6 +20,7 @@ import signal
 import socket
 import subprocess
 import sys
+import threading
 import time
 import urllib.request
 from collections.abc import Iterator
@@ -214,6 +215,17 @@ def completes_clickctl(tree: Tree) -> None:
     with started(tree, b"Idle -> count :: Counter -> cue :: Queue -> Discard;") as (port, _):
         same(["count.", "cue."], completed(tree, "clickctl", "-p", str(port), "read", "c"), "elements")
         same(["count.byte_count"], completed(tree, "clickctl", "-p", str(port), "watch", "count.b"), "handlers of an element")
+        for command, writes in (("read", False), ("watch", False), ("wait", False), ("write", True)):
+            wanted = ["cue.capacity", *(["cue.reset", "cue.reset_counts"] if writes else ["cue.drops", "cue.highwater_length", "cue.length"])]
+            same(wanted, completed(tree, "clickctl", "-p", str(port), command, "cue."), f"the handlers of {command}")
+            same(wanted, completed(tree, "clickctl", command, "-h", "127.0.0.1", "--port", str(port), "cue."), f"the handlers of {command} with options after it")
+        same(6, len(completed(tree, "clickctl", "-p", str(port), "check", "cue.")), "the handlers of check")
+        same(["cue."], completed(tree, "clickctl", "-p", str(port), "read", "count.count", "cu"), "a second element of read")
+        same([], completed(tree, "clickctl", "-p", str(port), "write", "cue.capacity", "c"), "the text of write")
+    shared = ["--help", "--host", "--port", "--timeout"]
+    same(sorted([*shared, "--count", "--interval"]), sorted(completed(tree, "clickctl", "watch", "--")), "the options of watch")
+    same(sorted([*shared, "--text"]), sorted(completed(tree, "clickctl", "read", "c.count", "--")), "the options of read")
+    same([], completed(tree, "clickctl", "watch", "--count", ""), "the value of --count")
 
 
 def alerts(tree: Tree) -> None:
@@ -324,7 +336,7 @@ def starts(tree: Tree) -> None:
         same(text + b"\n\n", value_of(port, "config"), "the configuration, to its last byte")
         program = f"{tree.dest}/{PREFIX}/bin/click_prog"
         same(os.path.realpath(program), os.path.realpath(f"/proc/{process.pid}/exe"), "the program that clickd became")
-        same("131072", variable_of(process, "MALLOC_MMAP_THRESHOLD_"), "the limit of blocks whose memory is returned")
+        same(None, variable_of(process, "MALLOC_MMAP_THRESHOLD_"), "the limit of blocks whose memory is returned")
         with socket.socket(socket.AF_INET, socket.SOCK_DGRAM) as left, socket.socket(socket.AF_INET, socket.SOCK_DGRAM) as right:
             left.bind(("127.0.0.1", ports["5002"]))
             right.bind(("127.0.0.1", ports["5004"]))
@@ -333,10 +345,8 @@ def starts(tree: Tree) -> None:
             same(b"a packet", right.recv(2048), "the datagram that leaves")
         process.send_signal(signal.SIGTERM)
         same(-signal.SIGTERM, process.wait(SECONDS), "the end by SIGTERM")
-    # The C library reads an empty value as 0, and would ask the system for each block.
-    for given, limit in (("1048576", "1048576"), ("", "131072")):
-        with patch.dict(os.environ, {"MALLOC_MMAP_THRESHOLD_": given}), started(tree, OLD) as (_, process):
-            same(limit, variable_of(process, "MALLOC_MMAP_THRESHOLD_"), f"the limit if the variable was {given!r}")
+    with patch.dict(os.environ, {"MALLOC_MMAP_THRESHOLD_": "131072"}), started(tree, OLD) as (_, process):
+        same("131072", variable_of(process, "MALLOC_MMAP_THRESHOLD_"), "the limit that the operator sets")
 
 
 def variable_of(process: subprocess.Popen[bytes], name: str) -> str | None:
@@ -375,6 +385,94 @@ def try_reloads(tree: Tree) -> None:
         has(did.err, "the text has 1048577 bytes, and at most 1048576 are allowed", "why it is refused")
 
 
+EMPTY = "the text is empty or has only white space"
+# White space by docs/LANGUAGE.md, also more of it than an argument of a program has.
+BLANKS = (b"", b"\n", b" \t\n\r\v\f\r\n", b" " * 200_000)
+
+
+def empty_texts(tree: Tree) -> None:
+    """Checks that a text without a word or a sign neither replaces a running one nor starts a router."""
+    tree.installed()
+    for has_clickctl in (True, False) if tree.has_clients else (False,):
+        if tree.has_clients and not has_clickctl:
+            os.remove(f"{tree.dest}/{PREFIX}/bin/clickctl")
+        with started(tree, OLD) as (port, _):
+            for text in BLANKS:
+                did = reload(tree, port, text)
+                same((2, ""), (did.status, did.out), f"a reload of {text[:20]!r}")
+                has(did.err, EMPTY, f"a reload of {text[:20]!r}")
+                same(OLD, value_of(port, "config"), "the configuration")
+            same((0, b"//"), (reload(tree, port, b"//").status, value_of(port, "config")), "a reload of a comment")
+    for text in BLANKS:
+        with started(tree, text, waits=False) as (port, process):
+            same(2, process.wait(SECONDS), f"the start of a router with {text[:20]!r}")
+            has((process.stderr.read() if process.stderr else b"").decode(), EMPTY, "why it does not start")
+
+
+# What clickd prints about the router for a status of clickctl.
+UNCHANGED, UNKNOWN = "and the router goes on unchanged", "the router did not confirm the swap; it may have done it, or still do it"
+MEANINGS = {1: f"the swap was refused, {UNCHANGED}", 2: f"nothing was sent, {UNCHANGED}", 4: UNKNOWN, 130: UNKNOWN}
+
+
+def unknown_outcomes(tree: Tree) -> None:
+    """Checks what a reload that fails says of the router, by a stand-in for clickctl and without it."""
+    tree.installed()
+    command, port = f"{tree.dest}/{PREFIX}/bin/clickctl", free_ports(1)[0]
+    for status, meaning in MEANINGS.items() if tree.has_clients else ():
+        os.remove(command)
+        tree.script(os.path.relpath(command, tree.top), f"#!/bin/sh\nexit {status}\n")
+        did = reload(tree, port, NEW)
+        same((status, ""), (did.status, did.out), f"a reload with status {status} of clickctl")
+        is_said(did, meaning)
+    if tree.has_clients:
+        os.remove(command)
+    script = f"{tree.dest}/{PREFIX}/libexec/click/clickd"
+    with open(script, encoding="utf-8") as it:
+        text = it.read()
+    same(1, text.count("reply_seconds=60\n"), "the time of a reply in clickd")
+    tree.script(os.path.relpath(script, tree.top), text.replace("reply_seconds=60\n", "reply_seconds=1\n"))
+    for sent, ends, why in (
+        (b"", True, "the router ended the session without a complete reply"),
+        (b"520-Write handler 'hotconfig' error:\r\n520 4 Unexp", True, "the router ended the session without a complete reply"),
+        (b"", False, "no complete reply within 1 s"),
+        (b"520-Write handler 'hotconfig' error:\r\n", False, "no complete reply within 1 s"),
+    ):
+        with half_router(sent, ends) as port:
+            did = reload(tree, port, NEW)
+        same((4, ""), (did.status, did.out), f"a reload of a router that sends {sent!r}")
+        has(did.err, why, "the cause")
+        is_said(did, UNKNOWN)
+
+
+def is_said(did: Ran, meaning: str) -> None:
+    """Checks that a reload says this of the router, and nothing else."""
+    has(did.err, meaning, "what a reload says of the router")
+    for other in (UNCHANGED, UNKNOWN):
+        same(other in meaning, other in did.err, f"that a reload says {other!r}")
+
+
+@contextmanager
+def half_router(sent: bytes, ends: bool) -> Iterator[int]:
+    """Serves one session that sends this after a command, and then ends it or is silent."""
+    with socket.create_server(("127.0.0.1", 0)) as server, ExitStack() as sessions:
+
+        def serve() -> None:
+            peer = sessions.enter_context(server.accept()[0])
+            peer.sendall(b"Click::ControlSocket/1.3\r\n")
+            # clickd sends QUIT last.
+            came = b""
+            while not came.endswith(b"QUIT\n"):
+                came += peer.recv(65536)
+            peer.sendall(sent)
+            if ends:
+                peer.shutdown(socket.SHUT_WR)
+
+        thread = threading.Thread(target=serve)
+        thread.start()
+        yield server.getsockname()[1]
+        thread.join(SECONDS)
+
+
 def other_port(tree: Tree) -> None:
     """Checks that a reload reaches the router of the unit, even if its options have changed to the
     port of another router."""
@@ -396,6 +494,15 @@ def readonly(tree: Tree) -> None:
             same((1, ""), (did.status, did.out), "a reload with --readonly")
             has(did.err, "Permission denied for 'hotconfig'", "why it is refused")
             same(OLD, value_of(port, "config"), "the configuration")
+    for text in (b"//" + b"x" * 131_070, b"// a byte 0: \x00\n" + OLD, b"// not UTF-8: \xff\n" + OLD):
+        with started(tree, text, "--readonly", waits=False) as (port, process):
+            until(lambda: process.poll() is not None or listens(port), "a router with --readonly whose text is no argument ends or starts")
+            same(2, process.poll(), f"the status with --readonly and {text[:20]!r}")
+            why = (process.stderr.read() if process.stderr else b"").decode()
+            for part in (f"a.click: the text has {len(text)} bytes; with --readonly at most 131071 bytes of UTF-8 without a byte 0 are allowed", "change the text, or leave out --readonly"):
+                has(why, part, "why it does not start")
+    with started(tree, b"//" + b"x" * 131_069, "--readonly") as (port, _):
+        same(131_071, len(value_of(port, "config")), "the bytes of the longest text with --readonly")
 
 
 def no_router(tree: Tree) -> None:
@@ -496,6 +603,8 @@ CHECKS = {
     "a router starts from a file with options": starts,
     "a reload installs or changes nothing": reloads,
     "a reload of a router that may only be read": readonly,
+    "an empty text is refused": empty_texts,
+    "what a failed reload says": unknown_outcomes,
     "a reload after a change of the port": other_port,
     "no router": no_router,
     "a router without a free session": all_slots,
@@ -519,6 +628,10 @@ WRONGS = {
     "page-that-warns": Edit("the manual pages", "service/manual.py", '".SH SEE ALSO"', '".SH SEE ALSO", ".NO"'),
     "page-without-options": Edit("the manual pages", "service/manual.py", "sections += [f'.SH", "continue\n            sections += [f'.SH"),
     "completes-values": Edit("the completion", "service/click_prog.bash", "-e | -p | -n", "-e | -n"),
+    "completes-any-access": Edit("the completion", "service/clickctl.bash", '"$(_clickctl_asks "$access" ', "\"$(_clickctl_asks '' "),
+    "completes-no-options": Edit("the completion", "service/clickctl.bash", "    *,-*) _clickctl_offer", "    ,*,-*) _clickctl_offer"),
+    "completes-before-options": Edit("the completion", "service/clickctl.bash", 'else count=$((count + 1)); fi ;;', 'else count=$((count + 1)); fi && break ;;'),
+    "completes-texts": Edit("the completion", "service/clickctl.bash", "    write,0,* | wait,0,* |", "    write,* | wait,* |"),
     "completes-no-mode": Edit("the completion", "service/click_prog.bash", '${mode:+"$mode"} ', ""),
     "alert-of-no-metric": Edit("the alerts for Prometheus", "service/alerts.yml", "process_resident_memory_bytes", "process_memory_bytes"),
     "alert-that-never-comes": Edit("the alerts for Prometheus", "service/alerts.yml", "click_sessions >= click", "click_sessions > click"),
@@ -531,14 +644,22 @@ WRONGS = {
     "strips-lines": Edit("a router starts from a file with options", "service/clickd.sh", "IFS= read -r -d '' text < \"$1\" || true", 'text=$(cat "$1") size=${#text}'),
     "no-exec": Edit("a router starts from a file with options", "service/clickd.sh", 'exec "$bin/click_prog"', '"$bin/click_prog"'),
     "loses-options": Edit("a router starts from a file with options", "service/clickd.sh", '-e "$text" "$@"', '-e "$text" -p "$port"'),
-    "keeps-memory": Edit("a router starts from a file with options", "service/clickd.sh", "export MALLOC_MMAP_THRESHOLD_", "MALLOC_MMAP_THRESHOLD_"),
-    "empty-limit": Edit("a router starts from a file with options", "service/clickd.sh", "THRESHOLD_:-", "THRESHOLD_-"),
-    "own-limit": Edit("a router starts from a file with options", "service/clickd.sh", "${MALLOC_MMAP_THRESHOLD_:-131072}", "131072"),
+    "returns-memory": Edit("a router starts from a file with options", "service/clickd.sh", 'exec "$bin/click_prog"', 'MALLOC_MMAP_THRESHOLD_=131072 exec "$bin/click_prog"'),
+    "no-limit": Edit("a router starts from a file with options", "service/clickd.sh", 'exec "$bin/click_prog"', 'exec env -u MALLOC_MMAP_THRESHOLD_ "$bin/click_prog"'),
     "reload-that-lies": Edit("a reload installs or changes nothing", "service/clickd.sh", "[0-9][0-9][0-9]' '*) stop 1", "[0-9][0-9][0-9]' '*) echo"),
     "reload-of-lines": Edit("a reload installs or changes nothing", "service/clickd.sh", "copy=$(mktemp)\n", 'copy=$(mktemp)\n    set -- <(tr "\\n" " " < "$1")\n'),
     "reload-without-fault": Edit("a reload installs or changes nothing", "service/clickd.sh", "goes on unchanged: ${reply#520 }", "goes on unchanged"),
     "readonly-that-lies": Edit("a reload of a router that may only be read", "service/clickd.sh", "'200 Write handler'*) ;;", "'200 Write handler'* | 530*) ;;"),
-    "readonly-by-clickctl": Edit("a reload of a router that may only be read", "service/clickd.sh", '|| stop $? "$file: the swap failed, and the router goes on unchanged"', "|| true"),
+    "readonly-by-clickctl": Edit("a reload of a router that may only be read", "service/clickd.sh", '|| not_swapped $? "$file"', "|| true"),
+    "readonly-that-stays-empty": Edit("a reload of a router that may only be read", "service/clickd.sh", "--readonly) is_readonly=1 ;;", "--readonly) ;;"),
+    "readonly-without-texts": Edit("a reload of a router that may only be read", "service/clickd.sh", '[ -z "$is_argument" ] && [ -n "$is_readonly" ]', '[ -n "$is_readonly" ]'),
+    "empties": Edit("an empty text is refused", "service/clickd.sh", "grep -qa '[^[:space:]]' \"$1\" ||", "true ||"),
+    "empties-by-lines": Edit("an empty text is refused", "service/clickd.sh", "grep -qa '[^[:space:]]'", "grep -qa '[^ ]'"),
+    "empty-by-comments": Edit("an empty text is refused", "service/clickd.sh", "grep -qa '[^[:space:]]'", "grep -qa '^[^/]*[[:alpha:]]'"),
+    "unchanged-by-guess": Edit("what a failed reload says", "service/clickd.sh", '"$2: the router did not confirm the swap; it may have done it, or still do it"', '"$2: the swap failed, and the router goes on unchanged"'),
+    "unknown-refusal": Edit("what a failed reload says", "service/clickd.sh", '1) stop 1 "$2: the swap was refused, and the router goes on unchanged" ;;\n', ""),
+    "silent-is-ended": Edit("what a failed reload says", "service/clickd.sh", "if [ $? -gt 128 ]; then why=", "if false; then why="),
+    "half-a-refusal": Edit("what a failed reload says", "service/clickd.sh", "    '200 Write handler'*) ;;\n    [0-9][0-9][0-9]' '*)", "    '200 Write handler'*) ;;\n    [0-9][0-9][0-9]*)"),
     "reload-of-others": Edit("a reload after a change of the port", "service/clickd.sh", 'set -- "${words[@]:2}"', ":"),
     "half-installed": Edit("nothing is half installed", "install.sh", "    make_all\n", "    make_all || true\n"),
     "waits-too-long": Edit("no router", "service/clickd.sh", "if has_ended; then stop 4 'the router has ended'; fi\n        if [ $status", "if [ $status"),
@@ -548,7 +669,7 @@ WRONGS = {
     "short-arguments": Edit("texts that cannot be an argument", "service/clickd.sh", "max_argument_bytes=131071", "max_argument_bytes=100000"),
     "long-arguments": Edit("texts that cannot be an argument", "service/clickd.sh", "max_argument_bytes=131071", "max_argument_bytes=1048576"),
     "any-port": Edit("wrong options are refused", "service/clickd.sh", '[ "$((10#$port))" -le 65535 ]', "true"),
-    "twice-live": Edit("wrong options are refused", "service/clickd.sh", 'if [ "$word" = --live ]; then', "if false; then"),
+    "twice-live": Edit("wrong options are refused", "service/clickd.sh", "--live) live='' ;;", "--live) ;;"),
 }
 
 if __name__ == "__main__":

@@ -46,7 +46,9 @@ of the crate; that is a round. The check is of these functions and of those that
 Each changed function has to be refused for its own body. It does not count that it calls a refused
 function, or that a proof names something that the edit removed. No unchanged function may be
 refused for its own body. Edits of the same function are in different rounds, and each round starts
-from what the checks before it stored. An edit that changes more than bodies has its own round.
+from what the checks before it stored. An edit that is not refused in a round with others is tried once
+more alone, because one edit can hide what another shows. An edit that changes more than bodies has
+its own round.
 
 The script needs the libraries that `rt ci`, or `rt check` of the crates above, left in
 crates/NAME/out. It starts from what a check of the crate itself stored there. Failures are printed
@@ -80,7 +82,9 @@ RECORD = f"{TOP}/tools/mutants.txt"
 # Of the crates that did not change, the gate tries one mutant in this number.
 SHARE = 10
 # An error of a proof file about a name that the edit removed. It shows nothing about a contract.
-STALE = re.compile(r"has no field|is not in scope|has no `|was not admitted")
+STALE = re.compile(r"has\s+no\s+field|is\s+not\s+in\s+scope|has\s+no\s+`|was\s+not\s+admitted")
+# The rest of a line with an error. A message may have further lines, which are not read.
+MESSAGE = r"error: (.*)$"
 
 # A mutant. `pairs` has the file, the old and the new text of each change. `functions` has the paths
 # of the functions that have to be refused; it is empty if any may be. `owned` has what no other
@@ -384,7 +388,7 @@ def refused_by_itself(said):
     removed name, each with the reason, and all functions that were checked.
     """
     errors, lost = {}, {}
-    for found in re.finditer(r"^\./proofs/(\S+)/\w+\.antt:\d+:\d+: error: (.*)$", said, re.M):
+    for found in re.finditer(rf"^\./proofs/(\S+)/\w+\.antt:\d+:\d+: {MESSAGE}", said, re.M):
         # Functions of a cycle of calls have their proofs in one folder, and the name of a goal
         # there begins with the name of its function. A function that calls only itself, directly or
         # in its closures, has a folder with its own name.
@@ -394,7 +398,7 @@ def refused_by_itself(said):
             (lost if STALE.search(found[2]) else errors).setdefault(place, found[2])
     # A lemma next to the proofs of functions is about definitions only, so it fails if an edit
     # changes one of them. The prover then reports the proofs that use it as not admitted.
-    lemmas = [text for text in re.findall(r"^\./proofs/(?:\S+/)?(?!Answers\.|Invariants\.)\w+\.antt:\d+:\d+: error: (.*)$", said, re.M) if not STALE.search(text)]
+    lemmas = [text for text in re.findall(rf"^\./proofs/(?:\S+/)?(?!Answers\.|Invariants\.)\w+\.antt:\d+:\d+: {MESSAGE}", said, re.M) if not STALE.search(text)]
     refused, stale, checked = {}, {}, set()
     for path, verdict in re.findall(r"^fn ([\w:+]+): (.*)$", said, re.M):
         place = "/".join(path.split("::")[1:])
@@ -475,6 +479,12 @@ def tell(crate, found):
     return passed, len(found) - passed
 
 
+def results_of(crates, crate, work, it):
+    """Returns what the prover says of a round, by the copy of the crate in this folder."""
+    command = [*words_of(crates, crate), *only(crate, it.edits)]
+    return judged(it.edits, tried(command, f"{work}/crate", f"{work}/kept", it.texts))
+
+
 def try_crate(crates, crate, paths):
     """Tries these edits of a crate and prints the results of each round.
 
@@ -497,8 +507,11 @@ def try_crate(crates, crate, paths):
         if os.path.isdir(f"{folder}/out/incremental"):
             shutil.copytree(f"{folder}/out/incremental", f"{work}/kept")
         for it in rounds_of(folder, edits):
-            command = [*words_of(crates, crate), *only(crate, it.edits)]
-            counts.append(tell(crate, judged(it.edits, tried(command, f"{work}/crate", f"{work}/kept", it.texts))))
+            results = results_of(crates, crate, work, it)
+            for at, edit in enumerate(it.edits):
+                if not results[at][0] and len(it.edits) > 1:
+                    results[at] = results_of(crates, crate, work, Round(edit.owned, changed(folder, {}, edit), [edit]))[0]
+            counts.append(tell(crate, results))
     return tuple(map(sum, zip(*counts)))
 
 

@@ -17,7 +17,7 @@ script=${MUTANTS:-tools/mutants.py}
 tree=$work/tree
 small=$tree/crates/small
 mutants=$small/wrong-bodies
-cases='record record_to choice edits by_hand names none'
+cases='record record_to choice edits by_hand lost names none'
 
 # make_tree: makes a tree with only the crate of two functions, without mutants.
 make_tree() {
@@ -78,17 +78,12 @@ sums = it["sums_of"](it["crates_of"]())
 it["write_record"](it["RECORD"], {name: sums[name] for name in sys.argv[2:]})' "$script" "$@"
 }
 
-# make_prover: makes a toolchain whose prover refuses both functions, whatever their bodies are, and
-# puts it first on the PATH. It serves the cases that are not about the prover's verdicts.
+# make_prover LINE..: makes a toolchain whose prover prints these lines before its last one, whatever
+# the bodies of the functions are, and puts it first on the PATH.
 make_prover() {
     mkdir -p "$work/kit/bin"
     printf '#!/bin/sh\ncase $1 in doc) echo %s/START-HERE.md ;; version) echo rt 1 logic 1 ;; esac\n' "$work/kit" > "$work/kit/bin/rt"
-    cat > "$work/kit/bin/rattle" << 'END'
-#!/bin/sh
-echo 'fn small::next: not proved: `search` did not prove `ensures`'
-echo 'fn small::after_next: not proved: `search` did not prove `ensures`'
-echo 'logic=1'
-END
+    printf '%s\n' '#!/bin/sh' "cat << 'E'" "$@" 'logic=1' E > "$work/kit/bin/rattle"
     chmod +x "$work/kit/bin/rt" "$work/kit/bin/rattle"
     PATH=$work/kit/bin:$PATH
 }
@@ -138,7 +133,7 @@ case_record() {
 # recorded one, which was not tried, and serves as the record. It lacks a crate with a mutant that
 # is not refused.
 case_record_to() {
-    make_prover
+    make_prover 'fn small::next: not proved: `search` did not prove `ensures`' 'fn small::after_next: not proved: `search` did not prove `ensures`'
     edit returns_the_next '    next(n + 1)' '    next(n)'
     make_crate other 1
     make_crate faulty 1
@@ -159,7 +154,7 @@ case_record_to() {
 # that fits.
 case_choice() {
     local nth one='c[0-9]*'
-    make_prover
+    make_prover 'fn small::next: not proved: `search` did not prove `ensures`'
     for ((nth = 1; nth <= 17; nth++)); do make_crate "c$nth" 1; done
     make_crate first 1
     make_crate second 1
@@ -189,6 +184,7 @@ case_edits() {
     fails 'stands 0 times' --all
     edit calls_no_such_name '    next(n + 1)' '    next_of(n + 1)'
     fails 'did not reach the prover' --all
+    same '1 passed, 1 failed' "$(tail -n 1 "$work/out")" 'the result of an edit next to one that does not compile'
     edit has_no_pair '    next(n + 1)' '    next(n)'
     sed -i '$d' "$mutants/after_next__has_no_pair.edit"
     fails 'it has no whole pair' --all
@@ -205,6 +201,19 @@ case_by_hand() {
     printf 'file: src/lib.rt\nold:     n + 1\nnew:     1 + n\n' > "$small/by-hand/next__adds_in_reverse.edit"
     fails 'NOT REFUSED: small::next' --all --record
     passes 'small 3 unrecorded' --list
+}
+
+# A proof that names what the edit removed shows nothing.
+case_lost() {
+    local name at='./proofs/after_next/Answers.antt:3:1: error: `returns`:' why='not proved: the proof has an error'
+    for name in 'the term has no field `n`' '`n` is not in scope'; do
+        make_prover "$at $name" 'fn small::next: not proved: `search` did not prove `ensures`' "fn small::after_next: $why"
+        edit returns_the_next '    next(n + 1)' '    next(n)'
+        fails 'after_next__returns_the_next: REFUSED FOR A LOST NAME ALONE' --all
+        same '1 passed, 1 failed' "$(tail -n 1 "$work/out")" 'the result of an edit that only loses a name, next to one that is refused'
+    done
+    make_prover "$at the two types differ" './proofs/next/Answers.antt:3:1: error: the types differ' "fn small::next: $why" "fn small::after_next: $why"
+    passes '2 passed, 0 failed' --all
 }
 
 # A name begins with the item that is changed, says what is wrong, and is the only such name of the
@@ -248,8 +257,9 @@ wrongs() {
         's/ if it in sums and it not in counts}/ if it in sums}/'
     wrong choice 's/(it in known, hashlib/(True, hashlib/' 's/(it in known, hashlib/(it not in known, hashlib/' 's/if len(mutants_of(it)) <= left:/if True:/' 's/^SHARE = 10/SHARE = 5/' \
         's/^    changed = \[.*/    changed = []/' 's/ if it not in changed\]/]/' 's/^    return changed, tenth or .*/    return changed, others/'
-    wrong edits 's/ != 1:/ > 1:/' 's/^    if not pairs or .*/    if False:/' 's/^    unknown = .*/    unknown = []/'
+    wrong edits 's/ and len(it.edits) > 1:/ and False:/' 's/ != 1:/ > 1:/' 's/^    if not pairs or .*/    if False:/' 's/^    unknown = .*/    unknown = []/'
     wrong by_hand 's/(False, f"{edit.name}: NOT REFUSED/(True, f"{edit.name}: NOT REFUSED/' 's/^KINDS = .*/KINDS = ("wrong-bodies",)/'
+    wrong lost 's/^STALE = .*/STALE = re.compile("has no field")/' 's/(lost if STALE.search(found\[2\]) else errors)/errors/' 's/^        elif verdict.startswith("not proved") and place in errors:/        elif False:/'
     wrong names 's/^        elif name in names:/        elif False:/' 's/^        if not function or plain.*/        if False:/'
     wrong none 's/ or not passed else 0/ else 0/'
     echo "$refused times a wrong mutants.py was refused"
@@ -266,4 +276,4 @@ for case in ${*:-$cases}; do
     make_tree
     "case_$case"
 done
-echo 'mutants.py: the record, the choice of crates, edits and names: passed'
+echo 'mutants.py: the record, the choice of crates, edits, lost names and names: passed'

@@ -249,7 +249,7 @@ def with_systemd(tree: Tree) -> None:
     seen = seen_in(text)
     wanted = {**INSTALLED, "started": "0", "program": "/usr/bin/click_prog", "user": "own", "root": "ro"}
     wanted |= {"rights": "CapEff: 0000000000000000 CapBnd: 0000000000000000 NoNewPrivs: 1 Seccomp: 2 ", "config": f"{LINE}200 Goodbye!"[-70:]}
-    wanted |= {**reloaded("one", 1), **reloaded("two", 2), "back": f"other active {listed('Idle@1', 'back', 'Discard@3')}", "restarts": "NRestarts=1", "limit": "MALLOC_MMAP_THRESHOLD_=131072", "own_limit": "MALLOC_MMAP_THRESHOLD_=1048576", "long": f"0 {listed('Idle@1', 'long', 'Discard@3')}"}
+    wanted |= {**reloaded("one", 1), **reloaded("two", 2), "back": f"other active {listed('Idle@1', 'back', 'Discard@3')}", "restarts": "NRestarts=1", "limit": "none", "own_limit": "MALLOC_MMAP_THRESHOLD_=131072", "long": f"0 {listed('Idle@1', 'long', 'Discard@3')}"}
     wanted |= {"bad": "1 failed 0 1", "missing": "1 1", "second": "1 4", "enabled": "0"}
     expect(wanted, seen, text)
     if float(seen["sandbox"]) >= MAX_EXPOSURE:

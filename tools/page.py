@@ -528,6 +528,7 @@ def refuses_chunks(client):
         "a length that is no number": [(b"zz", b"1")],
         "no length": [(b"", b"1")],
         "a length below 0": [(b"-1", b"1")],
+        "a length of more than 64 bits": [(b"F" * 17, b"1")],
         "a chunk that is longer than its length": [(b"1", b"11")],
         "a length of the body too": [b"1"],
     }
@@ -553,14 +554,20 @@ def limits_chunks(client):
 def refuses_announced_chunks(client):
     """Checks that a chunk that announces more than 1 MiB is refused before its data comes."""
     target, first = "/write?handler=x.y", chunked(client, "/write?handler=x.y", b"x", end=b"")
-    get = f"GET /read?handler=version HTTP/1.1\r\nhost: 127.0.0.1:{client.router.page}\r\n\r\n".encode()
+    host = f"host: 127.0.0.1:{client.router.page}\r\n"
+    get = f"GET /read?handler=version HTTP/1.1\r\n{host}\r\n".encode()
+    post = f"POST {target} HTTP/1.1\r\n{host}{MARK}\r\ncontent-length: 5\r\n\r\n12345".encode()
+    long = chunked(client, target, end=b"200000\r\n")
     for what, pieces in {
         "1 MiB and a byte": [chunked(client, target, end=b"100001\r\n")],
         "2 MiB with zeros and an extension": [chunked(client, target, end=b"000200000;name=value\r\n")],
         "4 GiB": [chunked(client, target, end=b"FFFFFFFF\r\n")],
         "2 MiB after another chunk": [first + b"200000\r\n"],
+        "2 MiB after chunks of 200,000 bytes": [chunked(client, target, *[b"x" * 1000] * 200, end=b"200000\r\n")],
         "2 MiB in pieces": [first[:40], first[40:] + b"2000", b"00", b"\r", b"\n"],
-        "2 MiB after an answer": [get, chunked(client, target, end=b"200000\r\n")],
+        "2 MiB and a part of it": [long + b"x" * 100_000],
+        "2 MiB after an answer": [get, long],
+        "2 MiB after other requests": [get + post + first + b"0\r\nx-trailer: 1\r\n\r\n" + long],
         "2 MiB by a head in other letters": [first.replace(b"transfer-encoding: chunked", b"Transfer-ENCODING:  Chunked ") + b"200000\r\n"],
     }.items():
         with client.connect() as peer:
@@ -577,6 +584,14 @@ def refuses_announced_chunks(client):
     # These only look like the size of a chunk.
     for what, chunks in {"the data of a chunk": [b"1\r\n200000\r\n200000\r\n"], "a second chunk": [b"\r\n", b"200000\r\n"]}.items():
         same(510, client.send(chunked(client, target, *chunks, fields=[LAST])).json()["fault"], f"the size of a long chunk in {what}")
+    head = f"POST {target} HTTP/1.1\r\n{host}{MARK}\r\n{LAST}\r\ncontent-length: {len(long)}\r\n\r\n".encode()
+    for pieces in [head + long], [head, long], [get + head, long]:
+        with client.connect() as peer:
+            for piece in pieces:
+                peer.sendall(piece)
+                time.sleep(0.2)
+            came = received(peer, SECONDS)
+        same(510, Answer(came[came.rindex(b"HTTP/1.1 ") :]).json()["fault"], "a body with a length that is a request with a long chunk")
 
 
 def ends_slow_heads(client):
@@ -765,9 +780,9 @@ def links_of(client):
 def counts_links(command):
     """Checks the counts of links after datagrams from the peer, one from elsewhere, and a long one.
 
-    The name of the third device has bytes that are escaped in a label.
+    The name of the third device has each kind of byte that a device may have.
     """
-    odd = 'odd"\\device'
+    odd = "Odd_0.1:2-z"
     here_a, there_a, here_b, there_b, here_c, there_c = free_ports(6)
     options = [f"--link=a={here_a},{there_a}", f"--link=b={here_b},{there_b}", f"--link={odd}={here_c},{there_c}"]
     with Router(command, LINKED, *options) as router, udp_socket(there_a) as peer, udp_socket(there_b) as other, udp_socket() as stranger:
@@ -1533,7 +1548,6 @@ SEEN_BY = {
     "endless-sessions": "/metrics counts the sessions",
     "zero-links": "/metrics counts the datagrams of links",
     "exchanged-links": "/metrics counts the datagrams of links",
-    "raw-labels": "/metrics counts the datagrams of links",
     "memory-in-pages": "/metrics has the memory of the process",
     "makes-flat-again": "the flat form and the picture are made once",
     "makes-picture-again": "the flat form and the picture are made once",
@@ -1565,6 +1579,8 @@ SEEN_BY = {
     "long-chunks": "a long body in chunks is refused",
     "late-chunks": "a chunk that announces too many bytes is refused at once",
     "early-chunks": "a chunk that announces too many bytes is refused at once",
+    "first-chunks": "a chunk that announces too many bytes is refused at once",
+    "chunks-anywhere": "a chunk that announces too many bytes is refused at once",
     "waits-for-readers": "a peer that never reads is cut off",
     "cuts-off-early": "a peer that never reads is cut off",
     "cuts-off-slow-readers": "a peer that never reads is cut off",

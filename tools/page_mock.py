@@ -60,6 +60,8 @@ LINK_COUNTS = ["received", "strangers", "too_long", "no_room", "no_memory", "ent
 # picture.
 LARGE, MAKING = 1000, 1
 MOST_HEAD, MOST_BODY, MOST_CONNECTIONS = 65536, 1048576, 32
+# The number of bytes of a body in which a wrong mock looks for chunks that are too long.
+SEEN_BYTES = 16384
 # Shorter than those of the router, so that tests are faster. The last is the time in which a peer
 # has to take a part of the output.
 SECONDS_FOR_A_HEAD, SECONDS_BETWEEN, SECONDS_FOR_OUTPUT = 3, 30, 3
@@ -69,9 +71,9 @@ SECONDS_FOR_A_LONG_TEXT = 0.5
 WRONGS = """no-host-check no-target-check no-mark-check cors no-policy other-policy other-page no-method-check slow-heads takes-garbage long-heads long-bodies
 many-connections stuck-sessions other-element less-connections other-flat still-counter lost-write other-place no-place fault-installs no-redraw unseen-swap
 no-denial any-query empty-handler utf-8-names no-absolute-form capital-hosts no-allow no-head no-types less-metrics other-metrics all-gauges
-bad-sample still-metrics untyped no-room other-room no-figures figures-twice zero-sessions endless-sessions zero-links exchanged-links raw-labels
+bad-sample still-metrics untyped no-room other-room no-figures figures-twice zero-sessions endless-sessions zero-links exchanged-links
 memory-in-pages kept-flat kept-picture other-picture fault-redraws makes-flat-again makes-picture-again other-reasons garbage-ends-all
-late-refusal lost-answer parting-words no-chunks decimal-chunks takes-chunks long-chunks late-chunks early-chunks
+late-refusal lost-answer parting-words no-chunks decimal-chunks takes-chunks long-chunks late-chunks early-chunks first-chunks chunks-anywhere
 waits-for-readers cuts-off-early cuts-off-slow-readers one-at-once end-ends-all no-end-of-heads""".split()
 # Edits of the page: texts that occur once, each followed by its replacement.
 DRAWS_ALL = "isWhole = isAll || parts.length <= PARTS.whole", "isWhole = true"
@@ -528,6 +530,8 @@ class Page:
             return self.joined_chunks(peer, rest)
         while len(rest) < length:
             rest += self.more(peer)
+        if self.wrong == "chunks-anywhere" and b"transfer-encoding: chunked" in rest[:length]:
+            raise Refused(413)
         return rest[:length], rest[length:]
 
     def joined_chunks(self, peer, rest):
@@ -536,7 +540,7 @@ class Page:
         while True:
             line, rest = self.line(peer, rest)
             size = self.size_of(line)
-            if self.announces_too_much(size):
+            if self.announces_too_much(size) and not (self.wrong == "first-chunks" and len(body) > SEEN_BYTES):
                 raise Refused(413)
             if size == 0:
                 while line:
@@ -554,7 +558,7 @@ class Page:
     def size_of(self, line):
         """Returns the length of a chunk, by the line in front of it."""
         found = re.fullmatch(rb"([0-9A-Fa-f]+)[ \t]*(;.*)?", line)
-        if found:
+        if found and int(found[1], 16) < 1 << 64:
             return int(found[1], 10 if self.wrong == "decimal-chunks" and found[1].isdigit() else 16)
         if self.wrong == "takes-chunks":
             return 1
@@ -701,8 +705,7 @@ class Figures:
         return "".join(f"# TYPE {metric} {kind}\n" + "".join(f"{metric}{label} {value}\n" for label, value in samples) for metric, (kind, samples) in groups.items())
 
     def label(self, device):
-        escaped = device if self.wrong == "raw-labels" else device.replace("\\", "\\\\").replace('"', '\\"')
-        return f'{{device="{escaped}"}}'
+        return f'{{device="{device}"}}'
 
     def count(self, device, count):
         if self.wrong == "exchanged-links":

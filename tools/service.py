@@ -1,9 +1,11 @@
 #!/usr/bin/env python3
 """Checks that the router serves sessions over TCP for a long time. No reply is lost when a session
 ends, also if its client goes on sending. A client that keeps its session waiting is ended after
-the time of --idle, and a slow one is not. Peers are probed, so that TCP finds one that went away.
+the time of --idle, and a slow one is not. A session goes on if the process is stopped and continued.
+Peers are probed, so that TCP finds one that went away.
 After 2,000 sessions that end in many ways the program has the memory, descriptors and threads that
-it had after the first hundred. A swap to smaller queues returns the memory of the large ones.
+it had after the first hundred. If the operator asks for it, a swap to smaller queues returns the
+memory of the large ones.
 
     tools/service.py [CASE..]
 
@@ -18,6 +20,7 @@ import ctypes
 import errno
 import os
 import re
+import signal
 import socket
 import stat
 import struct
@@ -47,6 +50,8 @@ IDLE, SLACK = 1, 1.5
 # The seconds for which an ended session waits until its client closes, and the number of bytes of
 # the client that it discards. PIECE is the number of bytes that a client sends at a time.
 DISCARD_SECONDS, DISCARD_BYTES, PIECE = 2, 2_097_152, 262_144
+# The number of clients that quit before the process is stopped.
+QUITTERS = 3
 # The numbers of session slots, of sessions in the first wave, of all sessions, and of further waves.
 SLOTS, FIRST, ALL, WAVES = 64, 100, 2000, 4
 # The maximum growth of memory after the first wave, and over swaps of queues, in kB.
@@ -254,6 +259,42 @@ def slow() -> None:
         all_at_once([sends_slowly, reads_slowly])
 
 
+def pause(live: Live, times: int) -> None:
+    """Stops the process and continues it, `times` times."""
+    for number in (signal.SIGSTOP, signal.SIGCONT) * times:
+        time.sleep(0.1)
+        live.process.send_signal(number)
+    time.sleep(0.1)
+
+
+def stopped() -> None:
+    """Checks that sessions go on where they waited when the process is stopped and continued.
+
+    Linux interrupts a read or a write with a time limit then (signal(7)).
+    """
+    count, value = 100, b"200 Read handler 'config' OK\r\nDATA %d\r\n%s" % (len(LONG_TEXT), LONG_TEXT.encode())
+    with Live(2, text=LONG_TEXT) as live:
+        with live.connect() as silent_one, live.connect() as reader:
+            # Its buffers hold less than all replies, so a write of the router blocks.
+            reader.setsockopt(socket.SOL_SOCKET, socket.SO_RCVBUF, 65536)
+            reader.sendall(b"READ config\n" * count + b"QUIT\n")
+            # The first time may end a write that took a part of its bytes.
+            pause(live, 4)
+            silent_one.sendall(b"READ c.count\nQUIT\n")
+            same(GREETING + VALUE + GOODBYE, rest_of(silent_one), "a client that was silent")
+            same(GREETING + value * count + GOODBYE, rest_of(reader), "a client that reads late")
+        # A loaded machine may stop the process before the router discards, so several clients quit.
+        for _ in range(QUITTERS):
+            with live.connect() as leaver:
+                leaver.sendall(b"QUIT\n")
+                same(GREETING + GOODBYE, rest_of(leaver), "a client that quits")
+                pause(live, 1)
+                # The router still discards what the client sends, and does not reset the connection.
+                for _ in range(2):
+                    leaver.sendall(b"READ c.count\n")
+                    time.sleep(0.1)
+
+
 def unlimited() -> None:
     """Checks that with --idle 0, and without --live, a silent client is not ended."""
     with Live(1, "--idle", "0") as live, Router(TEXT, 1) as books:
@@ -339,12 +380,12 @@ def connection_of(process: int, peer: socket.socket) -> socket.socket:
     raise Wrong("the program has no connection with the client")
 
 
-def variable_of_clickd() -> dict[str, str]:
-    """Returns the variable of the allocator with which clickd starts a router."""
-    with open(f"{TOP}/service/clickd.sh", encoding="utf-8") as it:
-        found = re.search(r"^export (MALLOC_MMAP_THRESHOLD_)=\S*-(\d+)\}$", it.read(), re.M)
+def returning_variable() -> dict[str, str]:
+    """Returns the variable that returns memory, as OPERATING.md gives it."""
+    with open(f"{TOP}/docs/OPERATING.md", encoding="utf-8") as it:
+        found = re.search(r"^A line `(MALLOC_MMAP_THRESHOLD_)=(\d+)` in NAME.conf", it.read(), re.M)
     if not found:
-        raise Wrong("service/clickd.sh sets no MALLOC_MMAP_THRESHOLD_")
+        raise Wrong("docs/OPERATING.md names no MALLOC_MMAP_THRESHOLD_")
     return {found[1]: found[2]}
 
 
@@ -369,7 +410,7 @@ def queues() -> None:
             until(lambda at=at: session.read(b"q%d.length" % at) == b"%d" % capacity, f"q{at} does not fill")
         return live.resources().memory
 
-    with patch.dict(os.environ, variable_of_clickd()):
+    with patch.dict(os.environ, returning_variable()):
         live = Live(1, "-w", "1", text=small)
     with live:
         session = Session(live)
@@ -389,7 +430,7 @@ def queues() -> None:
             raise Wrong(f"{SWAPS} swaps of empty queues took {after - before} kB")
 
 
-CASES = {case.__name__: case for case in (replies, limits, silent, unread, slow, unlimited, keepalive, many, queues)}
+CASES = {case.__name__: case for case in (replies, limits, silent, unread, slow, stopped, unlimited, keepalive, many, queues)}
 
 
 def main(words: list[str]) -> int:

@@ -90,6 +90,14 @@ class Logged(Listening):
         return found
 
 
+def posted(port: int, target: str, body: bytes) -> dict[str, object]:
+    """Posts this to the page at a port, and returns the value of the JSON in the response."""
+    head = f"POST {target} HTTP/1.1\r\nHost: 127.0.0.1:{port}\r\nConnection: close\r\nx-click-page: 1\r\nContent-Length: {len(body)}\r\n\r\n"
+    with connect(port) as peer:
+        peer.sendall(head.encode() + body)
+        return json.loads(rest_of(peer).partition(b"\r\n\r\n")[2])
+
+
 class Paged(Logged):
     """A router with a page, and with --log if it is on."""
 
@@ -99,11 +107,7 @@ class Paged(Logged):
         until(lambda: listeners(self.page) or self.process.poll() is not None, "the page does not listen")
 
     def post(self, target: str, body: bytes) -> dict[str, object]:
-        """Posts this to the page, and returns the value of the JSON in the response."""
-        head = f"POST {target} HTTP/1.1\r\nHost: 127.0.0.1:{self.page}\r\nConnection: close\r\nx-click-page: 1\r\nContent-Length: {len(body)}\r\n\r\n"
-        with connect(self.page) as peer:
-            peer.sendall(head.encode() + body)
-            return json.loads(rest_of(peer).partition(b"\r\n\r\n")[2])
+        return posted(self.page, target, body)
 
     def write(self, name: bytes, text: bytes) -> dict[str, object]:
         return self.post(f"/write?handler={quote_from_bytes(name, safe='')}", text)
@@ -161,6 +165,7 @@ def ends() -> None:
         talk(router.port, b"QUIT\n")
         talk(router.port, b"READ c.count\nCHECKREAD c.count\nCHECKWRITE c.count\nREAD x\nREAD c.co")
         talk(router.port, b"x" * 65_537)
+        talk(router.port, b"POST / HTTP/1.1\r\n\r\nWRITE c.reset_counts\n")
         with connect(router.port) as silent:
             same(GREETING, rest_of(silent), "a silent client")
         with connect(router.port) as resets:
@@ -172,6 +177,7 @@ def ends() -> None:
             [f"ends cause=quit {NO_CALLS}"],
             ["ends cause=end-of-input reads=2 writes=0 checks=2 failed=0"],
             [f"ends cause=too-long {NO_CALLS}"],
+            [f"ends cause=end-of-input {NO_CALLS}"],
             [f"ends cause=read-failed {NO_CALLS}"],
             [f"ends cause=read-failed {NO_CALLS}"],
             [f"ends cause=quit {NO_CALLS}"],
@@ -392,6 +398,20 @@ def parallel() -> None:
         same(True, all(1 <= slot <= SESSIONS for _, slot in who), "the slots are in their range")
 
 
+def slots() -> None:
+    """Checks that sessions that are open at the same time have different slots."""
+    with Logged("--live", slots=SESSIONS) as router:
+        peers = [connect(router.port) for _ in range(SESSIONS)]
+        for peer in peers:
+            same(GREETING, peer.recv(len(GREETING), socket.MSG_WAITALL), "the greeting of a session next to others")
+        for peer in peers:
+            with peer:
+                peer.sendall(b"QUIT\n")
+                same(b"200 Goodbye!\r\n", rest_of(peer), "the end of a session next to others")
+        begun = (first for first, *_ in router.lines(in_order=False).values())
+        same(sorted(f"begins slot={nth}" for nth in range(1, SESSIONS + 1)), sorted(begun), "the slots of sessions that are open at the same time")
+
+
 # What a client sends, and what it gets, whether or not there is a log.
 DIALOGUE = written(b"hotconfig", OTHER_TEXT.encode()) + b"WRITE c.reset_counts\nREAD q.length\nWRITE hotconfig Idle -> q :: Queue\nQUIT\n"
 REPLIES = (
@@ -420,6 +440,13 @@ def page_without() -> None:
     with Paged("--live", is_on=False) as router:
         same({"done": True}, router.write(b"c.reset_counts", b""), "a write of the page without --log")
         router.same_page_lines([])
+    # Next to a session on standard input nothing is logged.
+    page = free_port()
+    with subprocess.Popen([PROGRAM, "-e", TEXT, "--page", str(page)], stdin=subprocess.PIPE, stdout=subprocess.PIPE, stderr=subprocess.PIPE) as program:
+        until(lambda: listeners(page) or program.poll() is not None, "the page does not listen")
+        same({"done": True}, posted(page, "/write?handler=c.reset_counts", b""), "a write of the page next to standard input")
+        _, said = program.communicate(b"QUIT\n", timeout=SECONDS)
+    same(b"", said, "standard error of a run with a page next to standard input")
 
 
 def unwritable() -> None:
@@ -448,7 +475,7 @@ def serves_with(what: str, error_output: int) -> None:
 
 CASES = {
     case.__name__: case
-    for case in (ends, unread, swaps, page_swaps, writes, page_writes, page_links, readonly, page_reads, full, page_full, parallel, without, page_without, unwritable)
+    for case in (ends, unread, swaps, page_swaps, writes, page_writes, page_links, readonly, page_reads, full, page_full, parallel, slots, without, page_without, unwritable)
 }
 
 

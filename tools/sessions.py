@@ -1,6 +1,6 @@
 """Checks control sessions over TCP in parallel: sixteen sessions that read, write and swap while
 drivers make rounds, clients that hang up, and a live router. The replies have to be such that a
-single thread could have got them.
+single thread could have got them. A request of HTTP carries out no command.
 
     sessions.py PROGRAM CASE
     sessions.py PORT attached
@@ -330,22 +330,48 @@ def reading(program):
 
 
 def taken(program):
-    """Checks that the program ends with status 4 if its port is taken, and names the port.
+    """Checks that the program ends with status 4 if a port of it is taken, and names the port.
 
+    It is the port of sessions, or that of the page next to sessions over TCP or on standard input.
     A fault of the configuration is reported first.
     """
     with socket.socket() as other:
         other.bind(("127.0.0.1", 0))
         other.listen()
         port = other.getsockname()[1]
-        in_use = b"click_prog: sessions: cannot listen on 127.0.0.1:%d: Address already in use (os error 98)\n" % port
-        for text, status, wanted in (("Idle -> Discard;", 4, in_use), ("Idle -> ;", 1, b"click_prog: ")):
-            for options in (["-n", "3", "--book"], ["--live", "--idle", "1"]):
-                words = [program, "-e", text, "-p", str(port), *options]
+        in_use = "click_prog: {}: cannot listen on 127.0.0.1:%d: Address already in use (os error 98)\n" % port
+        asked = [
+            ("sessions", ["-p", str(port), "-n", "3", "--book"]),
+            ("sessions", ["-p", str(port), "--live", "--idle", "1"]),
+            ("page", ["--page", str(port), "-p", str(free_port()), "--live"]),
+            ("page", ["--page", str(port)]),
+        ]
+        for text, status in (("Idle -> Discard;", 4), ("Idle -> ;", 1)):
+            for user, options in asked:
+                wanted = in_use.format(user).encode() if status == 4 else b"click_prog: "
+                words = [program, "-e", text, *options]
                 ended = subprocess.run(words, stdin=subprocess.DEVNULL, capture_output=True, timeout=SECONDS)
                 is_wanted = ended.stderr == wanted if status == 4 else ended.stderr.startswith(wanted) and b"listen" not in ended.stderr
                 if (ended.returncode, ended.stdout) != (status, b"") or not is_wanted:
                     raise Wrong(f"a port that is taken: status {ended.returncode}, {ended.stdout!r}, {ended.stderr!r}")
+
+
+def checked(program):
+    """Checks the line of `--check` on standard error, for each of its words."""
+    text = "Idle -> c :: Counter -> Discard;"
+    for name, word in (("c.count", "Yes"), ("x.count", "NoElement"), ("c.none", "NoHandler"), ("c.reset_counts", "WrongWay")):
+        ended = subprocess.run([program, "-e", text, "--check", name], stdin=subprocess.DEVNULL, capture_output=True, timeout=SECONDS)
+        if (ended.returncode, ended.stderr) != (0, f"check {name}: {word}\n".encode()):
+            raise Wrong(f"the check of {name}: status {ended.returncode}, {ended.stderr!r}")
+
+
+def counts_to(session, wanted):
+    """Waits until the counter `c` has counted to this number."""
+    ends = time.monotonic() + SECONDS
+    while int(session.read(b"c.count")) < wanted:
+        if time.monotonic() > ends:
+            raise Wrong("the driver does not go on")
+        time.sleep(0.01)
 
 
 def staying(program):
@@ -369,11 +395,7 @@ def staying(program):
             else:
                 session.quit()
         session = Session(router)
-        ends = time.monotonic() + SECONDS
-        while int(session.read(b"c.count")) < 3000:
-            if time.monotonic() > ends:
-                raise Wrong("the driver does not go on")
-            time.sleep(0.01)
+        counts_to(session, 3000)
         with socket.create_connection(("127.0.0.1", router.port), timeout=SECONDS) as other:
             other.settimeout(0.5)
             try:
@@ -389,6 +411,86 @@ def staying(program):
             raise Wrong("the program has ended")
         router.process.terminate()
         router.ends(-signal.SIGTERM)
+    finally:
+        router.stop()
+
+HTTP_METHODS = (b"GET", b"HEAD", b"POST", b"PUT", b"DELETE", b"OPTIONS", b"PATCH", b"TRACE")
+# Requests and commands that are no request of HTTP, and the replies that CONTROL.md says.
+NO_REQUESTS = (
+    (b"POST\r\n", (b"501 Unimplemented command 'POST'",)),
+    (b"POST x HTTP/1.1\r\n", (b"501 Unimplemented command 'POST'",)),
+    (b"POST  / HTTP/1.1\r\n", (b"501 Unimplemented command 'POST'",)),
+    (b"POST\t/ HTTP/1.1\r\n", (b"501 Unimplemented command 'POST'",)),
+    (b"POST/ HTTP/1.1\r\n", (b"501 Unimplemented command 'POST/'",)),
+    (b"post / HTTP/1.1\r\n", (b"501 Unimplemented command 'post'",)),
+    (b"Get / HTTP/1.1\r\n", (b"501 Unimplemented command 'Get'",)),
+    (b"GET http://x/ HTTP/1.1\r\n", (b"501 Unimplemented command 'GET'",)),
+    (b"OPTIONS * HTTP/1.1\r\n", (b"501 Unimplemented command 'OPTIONS'",)),
+    (b" POST / HTTP/1.1\r\n", (b"501 Unimplemented command 'POST'",)),
+    (b"\r\nPOST / HTTP/1.1\r\n", (b"501 Unimplemented command 'POST'",)),
+    (b"READ c.count\r\nPOST / HTTP/1.1\r\n", (b"200 Read handler 'c.count' OK", b"501 Unimplemented command 'POST'")),
+    (b"POSTS / HTTP/1.1\r\n", (b"501 Unimplemented command 'POSTS'",)),
+    (b"READ /\r\n", (b"511 No handler named '/'",)),
+)
+
+
+def answer(router, sent, late=b""):
+    """Returns all that comes until the program ends the connection. `late` is sent after that."""
+    with socket.create_connection(("127.0.0.1", router.port), timeout=SECONDS) as client:
+        client.sendall(sent)
+        came = b""
+        try:
+            while piece := client.recv(65536):
+                came += piece
+        except TimeoutError:
+            raise Wrong(f"a request that is not ended: {sent[:40]!r}, after {came!r}") from None
+        client.sendall(late)
+        return came
+
+
+def requests(program):
+    """Checks that a connection that begins with a request of HTTP is ended before a command.
+
+    The lines of its body, also late ones, change nothing. The session slot is free for the next
+    session, the exit status is that of an end of the input, and other bytes are answered as ever.
+    """
+    text = "InfiniteSource(ab, 3, 1) -> c :: Counter -> Discard; Idle -> s :: Switch(0) -> Discard; s [1] -> Discard;"
+    head = b"Host: 127.0.0.1\r\nContent-Type: text/plain\r\nContent-Length: 99\r\n\r\n"
+    body = b"x=\r\nWRITE s.switch 1\nWRITE c.reset_counts\nWRITE hotconfig Idle -> evil :: Counter -> Discard;\nQUIT\n"
+    sent = [b"%s / HTTP/1.1\r\n%s%s" % (method, head, body) for method in HTTP_METHODS]
+    sent += [b"GET /%s HTTP/1.1\r\n%s%s" % (b"a" * 100_000, head, body), b"OPTIONS /", b"POST /\n" + body]
+    router = Router(program, text, 1, 1, None, ["--live"])
+    try:
+        session = Session(router)
+        counts_to(session, 3)
+        session.quit()
+        for request in sent:
+            for early, late in ((request, b""), (request[:64], request[64:])):
+                came = answer(router, early, late)
+                if came != GREETING:
+                    raise Wrong(f"the request {request[:40]!r} is answered by {came!r}")
+            session = Session(router)
+            state = [session.read(handler) for handler in (b"config", b"s.switch", b"c.count")]
+            if state != [text.encode(), b"0", b"3"]:
+                raise Wrong(f"the request {request[:40]!r} changes the router: {state!r}")
+            session.quit()
+        for commands, wanted in NO_REQUESTS:
+            session = Session(router)
+            session.socket.sendall(commands)
+            came = tuple(session.reply()[1][-1].removesuffix(b"\r\n") for _ in wanted)
+            if came != wanted:
+                raise Wrong(f"the bytes {commands!r} are answered by {came!r}")
+            number, lines, _ = session.ask(b"GET / HTTP/1.1\r\n")
+            if lines != [b"501 Unimplemented command 'GET'\r\n"]:
+                raise Wrong(f"a later request is answered by {number} {lines!r}")
+            session.quit()
+    finally:
+        router.stop()
+    router = Router(program, text, 1)
+    try:
+        if answer(router, sent[0]) != GREETING:
+            raise Wrong("the request of a run with a book is answered")
+        router.ends(0)
     finally:
         router.stop()
 
@@ -412,7 +514,7 @@ def attached(port):
     all_at_once([work, work])
 
 
-CASES = {case.__name__: case for case in (counting, swapping, clients, reading, taken, staying, attached)}
+CASES = {case.__name__: case for case in (counting, swapping, clients, reading, taken, checked, staying, requests, attached)}
 
 
 def main():

@@ -17,7 +17,7 @@ if [ $# -gt 0 ]; then
     for case in "$@"; do tried "$case"; done
     exit 0
 fi
-for case in counting swapping clients reading taken staying; do tried "$case"; done
+for case in counting swapping clients reading taken checked staying requests; do tried "$case"; done
 
 # README's command that listens, taken from the page.
 command=$(grep -m 1 '^    \./run\.sh.* -p 7777' "$top/README.md" | sed 's/^    //')

@@ -175,10 +175,19 @@ class Router:
                     raise PortTaken(f"the program ended with status {self.process.returncode} before it listened at port {port}")
                 self.session = Talk(socket.create_connection((HOST, port), timeout=SECONDS))
             else:
-                self.session = Talk(Pipes(self.process))
+                self.session = self.piped()
             until(lambda: all(udp_row(it.here, it.host) for it in links), "a link has no socket")
         except BaseException:
             self.stop()
+            raise
+
+    def piped(self):
+        """Returns the session on standard input and output."""
+        try:
+            return Talk(Pipes(self.process))
+        except Wrong as error:
+            if self.process.wait(SECONDS) == 4:
+                raise PortTaken(f"{error}, and the program has status 4") from error
             raise
 
     def __enter__(self):
@@ -502,17 +511,18 @@ def nobody():
 
 
 def refused():
-    """Checks the message and the status for two links of one device, and for a taken port."""
+    """Checks the message and the status for two links of one device, a taken port, and a fault."""
     a, other = Link("a"), Link("a")
-    taken = Link("b")
-    taken.here = taken.port
-    for links, status, line in (
-        ([a, other], 2, "click_prog: --link: the device 'a' is given twice; each device can have one link"),
-        ([a, taken], 4, f"click_prog: link b: cannot open a socket at {HOST}:{taken.here}: Address already in use (os error 98)"),
+    taken, holder = Link("b"), Link("c")
+    taken.here = holder.port
+    for links, text, status, line in (
+        ([a, other], PLAIN, 2, "click_prog: --link: the device 'a' is given twice; each device can have one link"),
+        ([a, taken], PLAIN, 4, f"click_prog: link b: cannot open a socket at {HOST}:{taken.here}: Address already in use (os error 98)"),
+        ([a], "FromDevice(a) -> Nothing;", 1, "click_prog: 11 UnknownName at 1:18"),
     ):
-        words = [PROGRAM, "--live", "-e", PLAIN, *(word for it in links for word in ("--link", it.word()))]
+        words = [PROGRAM, "--live", "-e", text, *(word for it in links for word in ("--link", it.word()))]
         ended = subprocess.run(words, input=b"READ c.count\n", capture_output=True, timeout=SECONDS, check=False)
-        same((status, b"", f"{line}\n".encode()), (ended.returncode, ended.stdout, ended.stderr), f"status, output and error of {' '.join(words[4:])}")
+        same((status, b"", f"{line}\n".encode()), (ended.returncode, ended.stdout, ended.stderr), f"status, output and error of {' '.join(words[3:])}")
 
 
 def away():

@@ -122,7 +122,13 @@ wrong_examples() {
     wrong_prog 'tools/examples.py opens' 'no greeting' 'sed -i 1d "$out"'
     wrong_prog 'tools/examples.py arguments' 'status 0 at wrong arguments' 'if [ $status = 2 ]; then status=0; fi'
     wrong_prog 'tools/examples.py arguments' 'another range' 'if [ $status = 2 ]; then sed -i "s/65535/65536/" "$err"; fi'
+    for line in 'is not a device' 'has the same address twice' 'needs --link'; do
+        wrong_prog 'tools/examples.py arguments' "a session where the line '$line' belongs" \
+            "if grep -q -e '$line' \"\$err\"; then : > \"\$err\"; printf 'Click::ControlSocket/1.3\r\n200 Goodbye!\r\n' > \"\$out\"; status=0; fi"
+    done
     wrong_prog 'tools/examples.py limits' 'another status if a device fails' 'if [ $status = 4 ]; then status=3; fi'
+    wrong_prog 'tools/examples.py limits' 'no line if a device fails' 'if [ $status = 4 ]; then : > "$err"; fi'
+    wrong_prog 'tools/examples.py pictures' 'no line if a picture cannot be written' 'if [ $status = 4 ]; then : > "$err"; fi'
     wrong_prog 'tools/examples.py limits' 'a line that is never too long' 'sed -i "s/^500 Line too long/200 Goodbye!/" "$out"'
     wrong_prog 'tools/examples.py faults' 'a fault without its place' 'sed -i "s/ \(at\|in\) .*//" "$err"'
     wrong_prog 'tools/examples.py readings' 'a fault of another number' 'sed -i "s/: [0-9]*/: 99/" "$err"'
@@ -166,6 +172,7 @@ wrong_calls_of_examples() {
     wrong_calls 'tools/examples.py dialogue' 'another value' 'sed -i "s/^value 3/value 2/" "$out"'
     wrong_calls 'tools/examples.py wrong_lines' 'a reply to a line that is no call' 'if [ $status = 2 ]; then echo nodevice >> "$out"; fi'
     wrong_calls 'tools/examples.py call_limits' 'late replies' ''
+    wrong_calls 'tools/examples.py call_limits' 'no line if a device fails' 'if [ $status = 4 ]; then : > "$err"; fi'
 }
 
 # wrong_allocations: wrong replies and statuses after a refused allocation.
@@ -268,6 +275,7 @@ named_wrong() {
 }
 service_wrong() { named_wrong tools/service.py "$@"; }
 log_wrong() { named_wrong tools/session_log.py "$@"; }
+requests_wrong() { named_wrong tools/sessions.sh requests "$@"; }
 # gateway_wrong, ethernet_wrong WHAT MESSAGE LINE..
 gateway_wrong() { named_wrong examples/gateway/run.sh '' "$@"; }
 ethernet_wrong() { named_wrong examples/ethernet/run.sh '' "$@"; }
@@ -284,7 +292,7 @@ retold() { echo "told=\$(mktemp -u '$work/told.XXXX'); mkfifo \"\$told\"; sed -u
 preloaded() {
     local library
     library=$(mktemp "$work/library.XXXX.so")
-    printf '%s\n' '#define _GNU_SOURCE' '#include <fcntl.h>' '#include <pthread.h>' '#include <stdlib.h>' '#include <string.h>' '#include <sys/socket.h>' \
+    printf '%s\n' '#define _GNU_SOURCE' '#include <errno.h>' '#include <fcntl.h>' '#include <pthread.h>' '#include <stdlib.h>' '#include <string.h>' '#include <sys/socket.h>' \
         '#include <sys/syscall.h>' '#include <sys/time.h>' '#include <unistd.h>' "$1" | cc -shared -fPIC -xc -o "$library" -
     echo "exec env LD_PRELOAD='$library' \"\$program\" \"\$@\""
 }
@@ -293,12 +301,26 @@ option() { preloaded "int setsockopt(int fd, int level, int name, const void *va
 # accepts CODE: prints lines for a program that does this first when it accepts a connection.
 accepts() { preloaded "int accept4(int fd, struct sockaddr *from, socklen_t *size, int flags) { $1; return syscall(SYS_accept4, fd, from, size, flags); }"; }
 # discards CODE: prints lines for a program that does this after it receives bytes of a session that
-# it has ended. `got` is their number, and `taken` is 0 at first.
+# it has ended. `got` is their number, and `taken` is 0 at first. Each session has a thread.
 discards() {
-    preloaded "static int ended = -1; static long taken;
+    preloaded "static __thread int ended = -1; static __thread long taken;
         int shutdown(int fd, int how) { ended = fd; return syscall(SYS_shutdown, fd, how); }
         int accept4(int fd, struct sockaddr *from, socklen_t *size, int flags) { ended = -1; taken = 0; return syscall(SYS_accept4, fd, from, size, flags); }
         ssize_t recv(int fd, void *to, size_t size, int flags) { long got = syscall(SYS_recvfrom, fd, to, size, flags, 0, 0); if (fd != ended) return got; $1; }"
+}
+# interrupted CALL TYPE NUMBER: prints lines for a program in which a call of this name fails for good
+# if a signal interrupts it. TYPE is that of its bytes, and NUMBER that of the system call.
+interrupted() {
+    preloaded "ssize_t $1(int fd, $2 bytes, size_t size, int flags) {
+        long done = syscall($3, fd, (void *)bytes, size, flags, 0, 0); if (done < 0 && errno == EINTR) errno = EIO; return done; }"
+}
+# begun CODE: prints lines for a program that does this after it receives the first bytes of a
+# session. They are at `to`, with room for one more, and `got` is their number.
+begun() {
+    preloaded "static __thread int is_new;
+        int accept4(int fd, struct sockaddr *from, socklen_t *size, int flags) { is_new = 1; return syscall(SYS_accept4, fd, from, size, flags); }
+        ssize_t recv(int fd, void *to, size_t size, int flags) {
+            long got = syscall(SYS_recvfrom, fd, to, size - is_new, flags, 0, 0); if (is_new && got > 0) { is_new = 0; $1; } return got; }"
 }
 # frees CONDITION: prints lines for a program that keeps a block with this condition of its size.
 frees() { preloaded "size_t malloc_usable_size(void *); void __libc_free(void *); void free(void *p) { size_t size = malloc_usable_size(p); if ($1) memset(p, 1, 4096); else __libc_free(p); }"; }
@@ -409,6 +431,9 @@ wrong_service() {
     service_wrong unread 'a write that waits forever' 'timed out' "$(option 'if (name == SO_SNDTIMEO) return 0')"
     service_wrong slow 'a limit that is too short' 'slowly\|reset\|Broken pipe' "$(option 'struct timeval t = {0, 250000}; if (name == SO_RCVTIMEO) value = &t')"
     service_wrong slow 'a limit of writes that is too short' 'slowly\|reset\|Broken pipe' "$(option 'struct timeval t = {0, 50000}; if (name == SO_SNDTIMEO) value = &t')"
+    service_wrong stopped 'reads that a signal ends' 'a client that was silent' "$(interrupted recv 'void *' SYS_recvfrom)"
+    service_wrong stopped 'writes that a signal ends' 'a client that reads late' "$(interrupted send 'const void *' SYS_sendto)"
+    service_wrong stopped 'input that it discards until a signal comes' 'Broken pipe\|reset' "$(discards 'if (got < 0 && errno == EINTR) errno = EIO; return got')"
     service_wrong unlimited 'a limit that was not asked for' 'ended early' "$(option 'struct timeval t = {1, 0}; if (name == SO_RCVTIMEO) value = &t')"
     service_wrong keepalive 'no probes' 'whether peers are probed' "$(option 'if (name == SO_KEEPALIVE) return 0')"
     service_wrong keepalive 'late probes' 'the time before the first probe' "$(option 'if (level == 6 && name == 4) return 0')"
@@ -453,8 +478,11 @@ wrong_log() {
     log_wrong page_full 'another cause of a failed call of the page' 'about a full book' "$(retold 's/history-full/no-memory/')"
     log_wrong parallel 'two lines in one' 'not a line of the log' "$(retold 'N;s/\n//')"
     log_wrong parallel 'a slot that is not there' 'the slots are in their range' "$(retold 's/slot=[0-9]*/slot=0/')"
+    log_wrong slots 'the same slot for all sessions' 'the slots of sessions that are open' "$(retold 's/slot=[0-9]*/slot=1/')"
     log_wrong without 'a line without --log' 'the outputs' 'echo junk >&2' 'exec "$program" "$@"'
     log_wrong page_without 'a line of the page without --log' 'the lines of the page' "$page_line" 'exec "$program" "$@"'
+    log_wrong page_without 'a line of the page next to standard input' 'next to standard input' \
+        'case " $* " in *" -p "*) ;; *) echo "page write=c.reset_counts bytes=0 outcome=done" >&2 ;; esac; exec "$program" "$@"'
     log_wrong unwritable 'an end if no line can be written' 'refused' 'if ! echo > /dev/stderr; then exit 4; fi' 'exec "$program" "$@"'
 }
 
@@ -476,11 +504,19 @@ network() {
     sessions_wrong reading 'writes though it may only read' "$writes"
     sessions_wrong clients 'a status that is always 0' '"$program" "$@"' 'exit 0'
     sessions_wrong taken 'a status that is always 0' '"$program" "$@"' 'exit 0'
+    sessions_wrong taken 'another user of a port' "$(retold 's/page: cannot/sessions: cannot/')"
     sessions_wrong taken 'no message' 'exec "$program" "$@" 2> /dev/null'
+    sessions_wrong checked 'no line of a check' "$(retold '/^check /d')"
+    sessions_wrong checked 'another word for a check' "$(retold 's/NoHandler/NoElement/')"
     sessions_wrong swapping 'junk on standard output' 'echo junk' 'exec "$program" "$@"'
+    requests_wrong 'a line before the first bytes' 'is answered by' "$(begun 'memmove((char *)to + 1, to, got++); *(char *)to = 10')"
+    requests_wrong 'an end at POST without a slash' 'ended early' "$(begun 'if (got > 4 && !memcmp(to, "POST", 4)) got = 0')"
+    requests_wrong 'an end at a method in lower case' 'ended early' "$(begun 'if (got > 5 && !strncasecmp(to, "post /", 6)) got = 0')"
+    requests_wrong 'an end at a request after a command' 'ended early' "$(begun 'if (memmem(to, got, "POST /", 6)) got = 0')"
     sessions_wrong staying 'an end' "$(printf '%s' "$writes" | sed s/--readonly/--live/)"
 
     hostile_wrong devices 'a status that is always 0' '"$program" "$@"' 'exit 0'
+    hostile_wrong devices 'no line if a device fails' 'exec "$program" "$@" 2> /dev/null'
     # The part that changes a reply gets unlimited memory.
     hostile_wrong memory 'another answer if out of memory' "\"\$program\" \"\$@\" > '$work/kept'" 'status=$?' 'ulimit -S -v unlimited' \
         "sed 's/^520 Out of memory/520 History full/' '$work/kept'" 'exit $status'
@@ -496,6 +532,7 @@ network() {
     wrong_log
 
     links_wrong refused 'status 0 at wrong arguments' '"$program" "$@"' 'exit 0'
+    links_wrong refused 'a fault as out of memory' '"$program" "$@" || { status=$?; if [ $status = 1 ]; then exit 3; fi; exit $status; }'
     links_wrong sizes 'an open door' "$(relayed open)"
     links_wrong sizes 'a first byte that is gone' "$(reworded '-> c ' '-> Strip(1) -> c ')"
     links_wrong addresses 'a stranger less in its counts' "$(retold '1 s/from elsewhere 1/from elsewhere 0/')"
@@ -550,6 +587,7 @@ wrong_ethernets() {
     ethernet_wrong 'reports from another address' 'traceroute from left, the first hop' "$(reworded 'ICMPError(\$ip, timeexceeded)' 'ICMPError(10.9.9.9, timeexceeded)')"
     ethernet_wrong 'another code in a report' 'a protocol of the router' "$(reworded 'unreachable, 2)' 'unreachable, 3)')"
     ethernet_wrong 'redirects to strangers' 'two datagrams that get no redirect' "$(reworded 'Classifier(0\/45 12\/\$net)' 'Classifier(-)')"
+    ethernet_wrong 'redirects about datagrams that it does not forward' 'two datagrams that are not forwarded' "$(reworded ' fits :: CheckLength(1500) -> back :: PaintTee(\$colour)' ' back :: PaintTee(\$colour) -> fits :: CheckLength(1500)')"
     ethernet_wrong 'no MTU in its reports' 'the path MTU of right' "$(reworded 'unreachable, 4, 1500' 'unreachable, 4')"
     ethernet_wrong 'reports about long datagrams from another address' 'a datagram of 1586 bytes' "$(reworded 'ICMPError(\$ip, unreachable, 4' 'ICMPError(10.9.9.9, unreachable, 4')"
     ethernet_wrong 'reports about broadcast frames' 'what answers a broadcast frame' "$(reworded '12\/0800 0\/\$digits' '12\/0800')"
@@ -637,7 +675,7 @@ wrong_definitions() {
 }
 
 pages() {
-    PROGRAM=$program wrong_example commands README.md 's/^    200 Read/    201 Read/' '/^which says/d' 's/`rattle-kit-[^`]* logic ./&0/'
+    PROGRAM=$program wrong_example commands README.md 's/^    200 Read/    201 Read/' '/^The line is/d' 's/`rattle-kit-[^`]* logic ./&0/'
     wrong_example tries README.md '/^    cd crates/d'
     wrong_example dialogue docs/CONTROL.md 's/^    510/    511/' '/^An example, with/d'
     wrong_example client docs/CONTROL.md 's/^READ c.none \["511/READ c.none ["510/'

@@ -98,7 +98,7 @@ try_reload() {
 }
 
 # limit: prints the variable of the C library that the router has.
-limit() { tr '\0' '\n' < "/proc/$(process line)/environ" | grep MALLOC_; }
+limit() { tr '\0' '\n' < "/proc/$(process line)/environ" | grep MALLOC_ || echo none; }
 
 # try_end: kills the router, which has to come back.
 try_end() {
@@ -113,7 +113,7 @@ try_end() {
     note back "$(if [ "$(process line)" = "$number" ]; then echo same; else echo other; fi) $(systemctl is-active click@line) $(ask 'READ list')"
     note restarts "$(systemctl show -p NRestarts click@line)"
     note limit "$(limit)"
-    echo MALLOC_MMAP_THRESHOLD_=1048576 >> /etc/click/line.conf
+    echo MALLOC_MMAP_THRESHOLD_=131072 >> /etc/click/line.conf
     { printf '// '; head -c 200000 /dev/zero | tr '\0' x; printf '\nIdle -> long :: Counter -> Discard;\n'; } > /etc/click/line.click
     note long "$(status_of systemctl restart click@line) $(ask 'READ list')"
     note own_limit "$(limit)"

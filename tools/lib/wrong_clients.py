@@ -13,7 +13,7 @@ WRONGS: tuple[tuple[str, str, str, str], ...] = (
     ("refused", COMMAND, "                status = REFUSED\n                continue", "                continue"),
     ("refused", COMMAND, "                status = REFUSED\n                continue", "                return REFUSED"),
     ("wait", COMMAND, "not '{given.value}'\")\n                return REFUSED", "not '{given.value}'\")\n                return DONE"),
-    ("caret", COMMAND, "refusal_of_swap(\"<stdin>\" if given.file == \"-\" else given.file, text, refusal))\n            return REFUSED", "refusal_of_swap(given.file, text, refusal))\n            return REFUSED"),
+    ("caret", COMMAND, "refusal_of_swap(name, text, refusal))", "refusal_of_swap(given.file, text, refusal))"),
     ("outputs", COMMAND, "        if sys.stdout is None:\n            raise OSError(0, \"it is closed\")\n", ""),
     ("outputs", COMMAND, "raise Unwritable(f\"standard output cannot be written: {error.strerror}\") from None", "return"),
     # Values.
@@ -25,6 +25,14 @@ WRONGS: tuple[tuple[str, str, str, str], ...] = (
     ("write", COMMAND, "content(\"-\") if given.text == \"-\" else bytes_of(given.text)", "bytes_of(given.text)"),
     ("read", COMMAND, "os.environ.get(\"CLICK_PORT\") or str(DEFAULT_PORT)", "str(DEFAULT_PORT)"),
     ("swap", COMMAND, "return sys.stdin.buffer.read(MAX_DATA_BYTES + 1)", "return sys.stdin.buffer.read(MAX_DATA_BYTES + 1).strip()"),
+    # Texts that are not sent.
+    ("empty", COMMAND, "    if not text.strip():", "    if not text:"),
+    ("empty", COMMAND, "    if not text.strip():", "    if not text.strip(b\" \\n\"):"),
+    ("empty", COMMAND, "    if not text.strip():", "    if not re.search(rb\"\\w\", text):"),
+    ("empty", COMMAND, "        raise Unsendable(f\"{name}: the text is empty", "        complain(f\"clickctl: {name}: the text is empty"),
+    ("empty", COMMAND, "{name}: the text has more than", "the text has more than"),
+    ("swap", COMMAND, "if len(text) > MAX_DATA_BYTES:", "if len(text) >= MAX_DATA_BYTES:"),
+    ("empty", LIBRARY, "        return self.write(\"hotconfig\", text)", "        return self.write(\"hotconfig\", text or \"x\")"),
     # Faults.
     ("caret", COMMAND, "[before + after, blanks + \"^\"]", "[before + after, blanks + \" ^\"]"),
     ("caret", COMMAND, "visible(row[: column - 1]), visible(row[column - 1 :]", "visible(row[:column]), visible(row[column:]"),
@@ -81,6 +89,7 @@ WRONGS: tuple[tuple[str, str, str, str], ...] = (
     ("manual", PAGE, "    q.capacity 5\n", "    q.capacity 6\n"),
     ("manual", PAGE, "    Idle -> nowhere;\n            ^\n    $ echo", "    Idle -> nowhere;\n           ^\n    $ echo"),
     ("manual", PAGE, "Connection refused\n    $ echo $?\n    4\n", "Connection refused\n    $ echo $?\n    1\n"),
+    ("manual", PAGE, "    $ echo $?\n    2\n", "    $ echo $?\n    0\n"),
     ("manual", PAGE, "```\n0 [b'FromDevice@1', ", "```\n1 [b'FromDevice@1', "),
     ("example", LIBRARY, "return self.text.rpartition(\"\\n\")[2]", "return self.text"),
 )
