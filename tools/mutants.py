@@ -82,9 +82,10 @@ RECORD = f"{TOP}/tools/mutants.txt"
 # Of the crates that did not change, the gate tries one mutant in this number.
 SHARE = 10
 # An error of a proof file about a name that the edit removed. It shows nothing about a contract.
-STALE = re.compile(r"has\s+no\s+field|is\s+not\s+in\s+scope|has\s+no\s+`|was\s+not\s+admitted")
-# The rest of a line with an error. A message may have further lines, which are not read.
-MESSAGE = r"error: (.*)$"
+STALE = re.compile(r"has no field|is not in scope|has no `|was not admitted")
+# An error of a proof file: the file without its ending, and the text. Further lines of the text are
+# indented.
+ERROR = re.compile(r"^\./proofs/(\S+)\.antt:\d+:\d+: error: (.*(?:\n[ \t]+.*)*)$", re.M)
 
 # A mutant. `pairs` has the file, the old and the new text of each change. `functions` has the paths
 # of the functions that have to be refused; it is empty if any may be. `owned` has what no other
@@ -387,18 +388,20 @@ def refused_by_itself(said):
     Returns the functions that are refused for their own bodies, those that are refused only for a
     removed name, each with the reason, and all functions that were checked.
     """
-    errors, lost = {}, {}
-    for found in re.finditer(rf"^\./proofs/(\S+)/\w+\.antt:\d+:\d+: {MESSAGE}", said, re.M):
+    errors, lost, lemmas = {}, {}, []
+    for file, lines in ERROR.findall(said):
+        folder, text = os.path.dirname(file), " ".join(lines.split())
+        # A lemma next to the proofs of functions is about definitions only, so it fails if an edit
+        # changes one of them. The prover then reports the proofs that use it as not admitted.
+        if os.path.basename(file) not in ("Answers", "Invariants") and not STALE.search(text):
+            lemmas.append(text)
         # Functions of a cycle of calls have their proofs in one folder, and the name of a goal
         # there begins with the name of its function. A function that calls only itself, directly or
         # in its closures, has a folder with its own name.
-        in_cycle = re.match(r"(.*/)?\+(\S+) `(\w+)-", f"{found[1]} {found[2]}")
-        places = [f"{in_cycle[1] or ''}{name}" for name in {in_cycle[3], *re.findall(r"\w+", in_cycle[2])}] if in_cycle else [found[1]]
+        in_cycle = re.match(r"(.*/)?\+(\S+) `(\w+)-", f"{folder} {text}")
+        places = [f"{in_cycle[1] or ''}{name}" for name in {in_cycle[3], *re.findall(r"\w+", in_cycle[2])}] if in_cycle else [folder]
         for place in places:
-            (lost if STALE.search(found[2]) else errors).setdefault(place, found[2])
-    # A lemma next to the proofs of functions is about definitions only, so it fails if an edit
-    # changes one of them. The prover then reports the proofs that use it as not admitted.
-    lemmas = [text for text in re.findall(rf"^\./proofs/(?:\S+/)?(?!Answers\.|Invariants\.)\w+\.antt:\d+:\d+: {MESSAGE}", said, re.M) if not STALE.search(text)]
+            (lost if STALE.search(text) else errors).setdefault(place, text)
     refused, stale, checked = {}, {}, set()
     for path, verdict in re.findall(r"^fn ([\w:+]+): (.*)$", said, re.M):
         place = "/".join(path.split("::")[1:])

@@ -206,13 +206,15 @@ case_by_hand() {
 # A proof that names what the edit removed shows nothing.
 case_lost() {
     local name at='./proofs/after_next/Answers.antt:3:1: error: `returns`:' why='not proved: the proof has an error'
-    for name in 'the term has no field `n`' '`n` is not in scope'; do
+    # The name may be in a further line.
+    for name in 'the term has no field `n`' '`n` is not in scope' $'expected `u8`\n    and `n` is not\n\tin scope'; do
         make_prover "$at $name" 'fn small::next: not proved: `search` did not prove `ensures`' "fn small::after_next: $why"
         edit returns_the_next '    next(n + 1)' '    next(n)'
         fails 'after_next__returns_the_next: REFUSED FOR A LOST NAME ALONE' --all
         same '1 passed, 1 failed' "$(tail -n 1 "$work/out")" 'the result of an edit that only loses a name, next to one that is refused'
     done
-    make_prover "$at the two types differ" './proofs/next/Answers.antt:3:1: error: the types differ' "fn small::next: $why" "fn small::after_next: $why"
+    # A line that is not indented belongs to no error.
+    make_prover "$at the two types differ" '`n` is not in scope' './proofs/next/Answers.antt:3:1: error: the types differ' "fn small::next: $why" "fn small::after_next: $why"
     passes '2 passed, 0 failed' --all
 }
 
@@ -259,7 +261,7 @@ wrongs() {
         's/^    changed = \[.*/    changed = []/' 's/ if it not in changed\]/]/' 's/^    return changed, tenth or .*/    return changed, others/'
     wrong edits 's/ and len(it.edits) > 1:/ and False:/' 's/ != 1:/ > 1:/' 's/^    if not pairs or .*/    if False:/' 's/^    unknown = .*/    unknown = []/'
     wrong by_hand 's/(False, f"{edit.name}: NOT REFUSED/(True, f"{edit.name}: NOT REFUSED/' 's/^KINDS = .*/KINDS = ("wrong-bodies",)/'
-    wrong lost 's/^STALE = .*/STALE = re.compile("has no field")/' 's/(lost if STALE.search(found\[2\]) else errors)/errors/' 's/^        elif verdict.startswith("not proved") and place in errors:/        elif False:/'
+    wrong lost 's/^STALE = .*/STALE = re.compile("has no field")/' 's/(?:\\n\[ \\t\]+\.\*)\*//' 's/(?:\\n\[ \\t\]+\.\*)\*/(?:\\n.+)*/' 's/" "\.join(lines\.split())/lines/' 's/(lost if STALE.search(text) else errors)/errors/' 's/^        elif verdict.startswith("not proved") and place in errors:/        elif False:/'
     wrong names 's/^        elif name in names:/        elif False:/' 's/^        if not function or plain.*/        if False:/'
     wrong none 's/ or not passed else 0/ else 0/'
     echo "$refused times a wrong mutants.py was refused"
