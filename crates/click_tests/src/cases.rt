@@ -6,7 +6,9 @@ use crate::routers::{answers_reads, is_port};
 use crate::seats::two_seats;
 use crate::slots::{Slots, serves_slots};
 use crate::views::two_views;
-use crate::workers::{all_enter, all_meet, is_noted, makes_rounds, reads_across, write_fails};
+use crate::workers::{
+    all_enter, all_meet, ends_when_refused, is_noted, makes_rounds, reads_across, write_fails,
+};
 use click_handlers::{Table, TakesTable, with_counted_table};
 use std::alloc::Global;
 use std::process::Abort;
@@ -28,6 +30,7 @@ pub(crate) enum Case {
     Meeting,
     WriteFails,
     Noted,
+    Refused,
     Crowd,
     Slots(Slots),
     RouterPort,
@@ -57,6 +60,7 @@ impl TakesTable for Trial {
             Case::Meeting => all_meet(rt, alloc, table),
             Case::WriteFails => write_fails(rt, alloc, table),
             Case::Noted => is_noted(rt, alloc, table),
+            Case::Refused => ends_when_refused(rt, alloc, table),
             Case::Crowd => all_enter(rt, alloc, table),
             Case::Slots(slots) => serves_slots(rt, alloc, table, slots),
             Case::RouterPort => is_port(alloc, table),

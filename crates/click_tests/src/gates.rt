@@ -1,4 +1,5 @@
-//! Gates that hold sessions and drivers until others have come, and one that notes its calls.
+//! Gates that hold sessions and drivers until others have come, one that refuses a command once, and
+//! one that notes its calls.
 
 use click_workers::Gate;
 use std::alloc::{AllocError, Global};
@@ -91,6 +92,32 @@ impl Gate for Driven {
             self.made.fetch_add(1, Ordering::SeqCst);
         }
     }
+}
+
+/// Refuses the second command of the session and of the driver once. Asked again, it allows it.
+#[derive(Drop)]
+pub(crate) struct RefusesOnce {
+    /// The number of times that it was asked for a command of the session after the first.
+    pub(crate) of_session: AtomicU64,
+    /// The number of times that it was asked for a command of the driver after the first.
+    pub(crate) of_driver: AtomicU64,
+}
+
+impl Gate for RefusesOnce {
+    ghost gives = { λ _ _ _ _. Unit {0} };
+
+    ghost told = { λ _ _ _. Unit {0} };
+
+    fn before(&self, who: usize, nth: u64) -> bool {
+        let asked = if who == SESSION {
+            &self.of_session
+        } else {
+            &self.of_driver
+        };
+        nth == 1 || asked.fetch_add(1, Ordering::SeqCst) > 0
+    }
+
+    fn after(&self, _who: usize, _nth: u64) {}
 }
 
 /// The state of a session: the calls that it has made, and the bytes that it has written.

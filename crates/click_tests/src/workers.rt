@@ -3,7 +3,7 @@
 ghost use Rattle.std.specs.Prelude.{◌≤◌, ◌<◌, ◌+◌};
 
 use crate::cases::{Case, assert_case};
-use crate::gates::{Crossed, Meeting, Note, Notes, Progress, SESSION};
+use crate::gates::{Crossed, Meeting, Note, Notes, Progress, RefusesOnce, SESSION};
 use crate::peers::Peers;
 use click_control::{Ended, ServeFault};
 use click_desk::{Entry, Seat};
@@ -323,6 +323,34 @@ pub(crate) fn is_noted<T: Handlers + Send + Drop, R: Threads + Wait + Sync>(
     Some(all_well(&ran, sizes) & in_turn & are_notes(alloc, &notes)?)
 }
 
+/// Runs a session of six commands and a driver of three rounds behind a gate that refuses the second
+/// command of each.
+pub(crate) fn ends_when_refused<T: Handlers + Send + Drop, R: Threads + Wait + Sync>(
+    rt: &R,
+    alloc: Global,
+    table: T,
+) -> Option<bool> {
+    let taken = AtomicU64::new(0);
+    let peers = Peers::new(alloc, SIX, &taken).ok()?;
+    let gate = RefusesOnce {
+        of_session: AtomicU64::new(0),
+        of_driver: AtomicU64::new(0),
+    };
+    let sizes = Sizes {
+        sessions: 1,
+        drivers: 1,
+        rounds: 3,
+    };
+    let ran = ran(rt, alloc, table, COUNTED, &peers, &gate, sizes)?;
+    let session = matches!(
+        ran.ended.as_slice(),
+        [SessionEnd::Served(Ok(Ended::GateClosed))]
+    ) & (gate.of_session.load(Ordering::SeqCst) == 1);
+    let driver = matches!(ran.drivers.as_slice(), [false])
+        & (gate.of_driver.load(Ordering::SeqCst) == 1);
+    Some(session & driver & (ran.book.entries.as_slice().len() == 2))
+}
+
 /// The number of sessions that come at once.
 const MANY: usize = 64;
 
@@ -375,6 +403,13 @@ fn a_write_stays_when_its_reply_fails(rt: HostRuntime) -> Result<(), Fail> {
 #[test]
 fn a_gate_is_asked_and_notified(rt: HostRuntime) -> Result<(), Fail> {
     assert_case(&rt, rt.alloc(), None, Case::Noted)
+}
+
+/// A session and a driver whose second command is refused end there. The gate is not asked again, and
+/// only their first commands are in the book.
+#[test]
+fn a_refused_command_is_the_last(rt: HostRuntime) -> Result<(), Fail> {
+    assert_case(&rt, rt.alloc(), None, Case::Refused)
 }
 
 /// Each of 64 sessions is let in exactly once, and no other session is.
