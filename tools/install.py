@@ -635,6 +635,7 @@ WRONGS = {
     "completes-no-mode": Edit("the completion", "service/click_prog.bash", '${mode:+"$mode"} ', ""),
     "alert-of-no-metric": Edit("the alerts for Prometheus", "service/alerts.yml", "process_resident_memory_bytes", "process_memory_bytes"),
     "alert-that-never-comes": Edit("the alerts for Prometheus", "service/alerts.yml", "click_sessions >= click", "click_sessions > click"),
+    "alert-of-two-restarts": Edit("the alerts for Prometheus", "service/alerts.yml", "[1h]) > 0", "[1h]) > 1"),
     "alert-of-idle-links": Edit("the alerts for Prometheus", "service/alerts.yml", " and click_link_received_total > 0", ""),
     "alert-of-old-drops": Edit("the alerts for Prometheus", "service/alerts.yml", 'increase(click_handler_total{handler="drops"}[5m])', 'click_handler_total{handler="drops"}'),
     "unknown-key": Edit("systemd accepts the unit", "service/click@.service", "RestartSec=1", "RestartSecs=1"),

@@ -2,13 +2,13 @@
 """Checks the page of a running router, by plain sockets and in a headless Chromium. By sockets:
 foreign hosts, writes without the header, and slow, large and many requests, while a session is
 answered, and its metrics by a parser of their format. The metrics have the counts of sessions and
-links, and the memory of the process. The flat form and the picture are those of the running
-configuration, and are made once. Also where the page listens, large answers to clients that read
-slowly or close, and connections that wait. A run ends with its session, and answers what it has
-read. In the browser: the
-picture, live counters, a write that a session sees, and swaps by the page and by a session. Also a
-mesh of 4,000 elements: what is drawn and read of it, the time of a click, and the processor time of
-an idle page. And a Prometheus scrapes the page and answers queries.
+links, and the start and the memory of the process. The flat form and the picture are those of the
+running configuration, and are made once. Also where the page listens, large answers to clients that
+read slowly or close, and connections that wait. A run ends with its session, and answers what it
+has read. In the browser: the picture, live counters, a write that a session sees, and swaps by the
+page and by a session. Also a mesh of 4,000 elements: what is drawn and read of it, the time of a
+click, and the processor time of an idle page. And a Prometheus scrapes the page and answers
+queries.
 
     tools/page.py [--part sockets|figures|connections|browser|large|prometheus] [--shots FOLDER] [PROGRAM [WORD..]]
     tools/page.py --mock [--wrong WHAT] [--part sockets|figures|browser|large|prometheus] [--shots FOLDER]
@@ -335,7 +335,7 @@ NUMBERS = {
 
 # The types of the metrics of the router, of its process, and of its links if it has any.
 ROUTER_TYPES = {"click_elements": "gauge", "click_overruns_total": "counter", "click_handler": "gauge", "click_handler_total": "counter"}
-PROCESS_TYPES = {"click_sessions": "gauge", "click_session_slots": "gauge", "click_sessions_total": "counter", "process_resident_memory_bytes": "gauge", "process_virtual_memory_bytes": "gauge"}
+PROCESS_TYPES = {"click_sessions": "gauge", "click_session_slots": "gauge", "click_sessions_total": "counter", "process_start_time_seconds": "gauge", "process_resident_memory_bytes": "gauge", "process_virtual_memory_bytes": "gauge"}
 LINK_COUNTS = "received strangers too_long no_room no_memory entered sent failed".split()
 LINK_TYPES = {f"click_link_{it}_total": "counter" for it in LINK_COUNTS}
 
@@ -802,6 +802,18 @@ def counts_links(command):
         same(wanted, links_of(client), "the counts of links after five datagrams")
 
 
+def tells_start(command):
+    """Checks that the metrics have the time at which the router started, also two seconds later."""
+    before = int(time.time())
+    with Router(command, WATCHED) as router:
+        client = Client(router, None)
+        start = metrics_of(client).values["process_start_time_seconds", frozenset()]
+        if not before <= start <= time.time():
+            raise Wrong(f"the start is {start}, and the router started after {before}")
+        time.sleep(2)
+        same(start, metrics_of(client).values["process_start_time_seconds", frozenset()], "the start, two seconds later")
+
+
 def measures_memory(command):
     """Checks the memory in the metrics between a half and twice what Linux says of the process."""
     with Router(command, WATCHED) as router:
@@ -883,6 +895,7 @@ def answers_before_end(command):
 FIGURES = {
     "/metrics counts the sessions": counts_sessions,
     "/metrics counts the datagrams of links": counts_links,
+    "/metrics has the time of the start": tells_start,
     "/metrics has the memory of the process": measures_memory,
     "the flat form and the picture are of the running configuration": keeps_made,
     "a run that ends answers what it has read": answers_before_end,
@@ -1548,6 +1561,8 @@ SEEN_BY = {
     "endless-sessions": "/metrics counts the sessions",
     "zero-links": "/metrics counts the datagrams of links",
     "exchanged-links": "/metrics counts the datagrams of links",
+    "start-is-now": "/metrics has the time of the start",
+    "start-in-milliseconds": "/metrics has the time of the start",
     "memory-in-pages": "/metrics has the memory of the process",
     "makes-flat-again": "the flat form and the picture are made once",
     "makes-picture-again": "the flat form and the picture are made once",

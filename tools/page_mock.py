@@ -72,7 +72,7 @@ WRONGS = """no-host-check no-target-check no-mark-check cors no-policy other-pol
 many-connections stuck-sessions other-element less-connections other-flat still-counter lost-write other-place no-place fault-installs no-redraw unseen-swap
 no-denial any-query empty-handler utf-8-names no-absolute-form capital-hosts no-allow no-head no-types less-metrics other-metrics all-gauges
 bad-sample still-metrics untyped no-room other-room no-figures figures-twice zero-sessions endless-sessions zero-links exchanged-links
-memory-in-pages kept-flat kept-picture other-picture fault-redraws makes-flat-again makes-picture-again other-reasons garbage-ends-all
+start-is-now start-in-milliseconds memory-in-pages kept-flat kept-picture other-picture fault-redraws makes-flat-again makes-picture-again other-reasons garbage-ends-all
 late-refusal lost-answer parting-words no-chunks decimal-chunks takes-chunks long-chunks late-chunks early-chunks first-chunks chunks-anywhere
 waits-for-readers cuts-off-early cuts-off-slow-readers one-at-once end-ends-all no-end-of-heads""".split()
 # Edits of the page: texts that occur once, each followed by its replacement.
@@ -687,11 +687,12 @@ class Links:
 
 
 class Figures:
-    """The counts of sessions and links, and the memory of the process, or wrong ones."""
+    """The counts of sessions and links, and the start and the memory of the process, or wrong ones."""
 
     def __init__(self, slots, links, wrong):
         self.slots, self.links, self.wrong = slots, links, wrong
         self.open, self.begun, self.lock = 0, 0, threading.Lock()
+        self.start = int(time.time())
 
     def text(self):
         is_zero = self.wrong == "zero-sessions"
@@ -699,6 +700,8 @@ class Figures:
         groups["click_sessions_total"] = "counter", [("", self.begun)]
         for count in LINK_COUNTS if self.links.counts else ():
             groups[f"click_link_{count}_total"] = "counter", [(self.label(device), self.count(device, count)) for device in self.links.counts]
+        start = int(time.time()) if self.wrong == "start-is-now" else self.start
+        groups["process_start_time_seconds"] = "gauge", [("", start * (1000 if self.wrong == "start-in-milliseconds" else 1))]
         with open("/proc/self/statm", encoding="ascii") as it:
             mapped, resident, *_ = (int(number) * (1 if self.wrong == "memory-in-pages" else 4096) for number in it.read().split())
         groups |= {"process_resident_memory_bytes": ("gauge", [("", resident)]), "process_virtual_memory_bytes": ("gauge", [("", mapped)])}

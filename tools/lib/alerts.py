@@ -30,6 +30,7 @@ SERIES = (
     ("click_link_received_total", LINK, "0+9x40", "0+9x8 72x30"),
     # Another link has been idle since the start, which is no fault.
     ("click_link_received_total", {"device": "b"}, "0x40", "0x40"),
+    ("process_start_time_seconds", {}, "1000x40", "1000x8 1500x30"),
     ("process_resident_memory_bytes", {}, "5000000x40", "5000000x8 2000000000x30"),
 )
 # The labels of each alert, besides those of the router, and its text.
@@ -42,6 +43,7 @@ ALERTS = {
     "ClickLinkLoses": (LINK, "a link loses packets"),
     "ClickLinkStrangers": (LINK, "a link gets datagrams that it does not take"),
     "ClickLinkSilent": (LINK, "a link that received packets receives none"),
+    "ClickRestarted": ({}, "the router has started again"),
     "ClickMemory": ({}, "the router has more memory than its queues need"),
 }
 

@@ -1,4 +1,4 @@
-//! The figures of the process for metrics: its sessions, its links and its memory.
+//! The figures of the process for metrics: its sessions, its links, its start and its memory.
 
 ghost use Rattle.std.specs.Prelude.{◌≡◌, ◌++◌, OnOk};
 ghost use Rattle.click_prog.specs.Figures.{family_text, line_text, link_line_text, metric_text, value_text};
@@ -9,10 +9,11 @@ use crate::session_counts::SessionCounts;
 use click_links::{CountSnapshot, Device};
 use click_page::{Figures, push_escaped};
 use itoa::Buffer;
+use jiff::Timestamp;
 use std::alloc::{AllocError, Global};
 
-/// The figures of a process that serves sessions: the counts of its sessions and links, and the
-/// memory that it uses.
+/// The figures of a process that serves sessions: the counts of its sessions and links, the time of
+/// its start, and the memory that it uses.
 ///
 /// No contract mentions the values.
 #[derive(Drop)]
@@ -23,10 +24,12 @@ pub struct ProcessFigures<'a> {
     pub slots: usize,
     /// The devices of the links.
     pub devices: &'a [Device],
+    /// The time at which the run began, in seconds since 1970 in UTC, if the clock could be read.
+    pub start: Option<u64>,
 }
 
 impl<'a> ProcessFigures<'a> {
-    /// Returns the figures of a process without links.
+    /// Returns the figures of a process without links. Reads the clock.
     pub fn new(
         host: &'a HostRuntime,
         sessions: &'a SessionCounts,
@@ -37,6 +40,7 @@ impl<'a> ProcessFigures<'a> {
             sessions,
             slots,
             devices: &[],
+            start: second_of_now(host),
         }
     }
 
@@ -50,6 +54,7 @@ impl<'a> ProcessFigures<'a> {
             sessions: self.sessions,
             slots: self.slots,
             devices,
+            start: self.start,
         }
     }
 }
@@ -61,6 +66,7 @@ impl Figures for ProcessFigures<'_> {
         let mut figures = Vec::new(self.host.alloc());
         push_sessions(&mut figures, self.sessions, self.slots)?;
         push_links(self.host.alloc(), &mut figures, self.devices)?;
+        push_start(&mut figures, self.start)?;
         push_memory(self.host, &mut figures)?;
         text.extend_from_slice(figures.as_slice())?;
         Ok(())
@@ -141,6 +147,27 @@ fn push_link_line(
     push_escaped(text, device)?;
     text.extend_from_slice(b"\"}")?;
     push_value(text, value)
+}
+
+/// Returns the time of the system's clock, in seconds since 1970 in UTC. Returns `None` if the clock
+/// cannot be read, or if it has an earlier time.
+fn second_of_now(host: &HostRuntime) -> Option<u64> {
+    let time = Timestamp::now(host).ok()?;
+    u64::try_from(time.as_second()).ok()
+}
+
+/// Appends the time of the start, if there is one.
+fn push_start(text: &mut Vec<u8>, start: Option<u64>) -> Result<(), AllocError> {
+    let Some(second) = start else {
+        return Ok(());
+    };
+    push_metric(
+        text,
+        b"process_start_time_seconds",
+        b"Time at which the run began, in seconds since 1970 in UTC.",
+        b"gauge",
+        second,
+    )
 }
 
 /// Appends the memory of the process, if it can be read.
