@@ -1,5 +1,5 @@
 -- The phases of a connection, and their time limits.
-use Rattle.std.specs.Prelude.{◌≡◌, ◌≢◌, ℕ, ◌*◌, ◌-◌, ◌<◌, Bool, IsTrue, IsFalse, length, take}
+use Rattle.std.specs.Prelude.{◌≡◌, ◌≢◌, ℕ, ◌*◌, ◌-◌, ◌<◌, ◌==◌, if◌then◌else◌, Bool, IsTrue, IsFalse, length, take}
 use Rattle.std.specs.Time.{instant_nanos}
 use Rattle.std.specs.declared.time.Instant.{Instant}
 use Rattle.http_server.specs.declared.connection.Connection.{Connection}
@@ -36,6 +36,11 @@ pub record NotesCall (old new : Timer) (has_answer : Bool) (now : Instant) : Typ
   pub answer : IsTrue has_answer → new ≡ begins Sending now
   pub sent : IsFalse has_answer → old.phase ≡ Sending → new ≡ begins Idle now
   pub other : IsFalse has_answer → old.phase ≢ Sending → new ≡ old
+
+-- A turn ended. A limit that began in the turn, or began again in it, counts from the end of the
+-- turn, because the service may take a while to make a response.
+abbrev pub after_turn : Timer → Instant → Instant → Timer
+after_turn t begun ended = if instant_nanos begun - instant_nanos t.since == 0 then begins t.phase ended else t
 
 -- output is pending
 abbrev pub HasOutput : Connection → Type 0

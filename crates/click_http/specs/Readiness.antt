@@ -7,7 +7,7 @@ use Rattle.http_server.specs.Connection.{config_of, history}
 use Rattle.http_server.specs.History.{WantsRead, Rests}
 use Rattle.click_http.specs.declared.settings.TheConstants.{MAX_CONNECTIONS}
 use Rattle.click_http.specs.Leading.{page_config}
-use Rattle.click_http.specs.Phases.{begins, IsInTime, HasOutput, HasNoOutput, HasAnswer}
+use Rattle.click_http.specs.Phases.{begins, after_turn, IsInTime, HasOutput, HasNoOutput, HasAnswer}
 use Rattle.click_http.specs.declared.accept_state.AcceptState.{AcceptState}
 use Rattle.click_http.specs.declared.accept_state.AcceptState.TheVariants.{Open}
 use Rattle.click_http.specs.declared.phase.Phase.TheVariants.{Idle, Begun, Sending, HalfClosed}
@@ -51,6 +51,13 @@ pub record IsGoingOn (old new : Peer) : Type 0 where
 pub record IsHalfClosed (old new : Peer) (now : Instant) : Type 0 where
   pub timer : new.timer ≡ begins HalfClosed now
   pub connection : new.connection ≡ old.connection
+
+-- A turn ended. Only the timer may have changed.
+pub record IsAfterTurn (old new : Peer) (begun ended : Instant) : Type 0 where
+  pub timer : new.timer ≡ after_turn old.timer begun ended
+  pub connection : new.connection ≡ old.connection
+  pub readable : new.readable ≡ old.readable
+  pub writable : new.writable ≡ old.writable
 
 -- What a time limit asks for: nothing before it is over. Then an incomplete request that is all that
 -- the connection has is refused, and any other connection is closed.

@@ -82,7 +82,7 @@ pub(crate) struct Peer {
 }
 
 impl Peer {
-    ghost use Rattle.click_http.specs.Readiness.{IsReadiness, IsNew, IsTimed, IsGoingOn, IsHalfClosed, IsVerdict, IsLimited, woken};
+    ghost use Rattle.click_http.specs.Readiness.{IsReadiness, IsNew, IsTimed, IsGoingOn, IsHalfClosed, IsAfterTurn, IsVerdict, IsLimited, woken};
     ghost use Rattle.click_http.specs.Waiting.{waited};
 
     pub(crate) fn new(alloc: Global, keys: RandomState, stream: TcpStream, now: Instant) -> Peer
@@ -279,6 +279,13 @@ impl Peer {
             }
         }
         true
+    }
+
+    /// Records that a turn ended, which began at `begun`.
+    pub(crate) fn note_turn(&mut self, begun: Instant, ended: Instant)
+        ensures { IsAfterTurn self.old self.new begun ended }
+    {
+        self.timer.note_turn(begun, ended);
     }
 
     /// Returns what the time limit of the phase asks for.

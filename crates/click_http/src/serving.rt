@@ -25,22 +25,34 @@ pub enum Ended {
     Failed(ErrorKind),
 }
 
-/// Gives the connection in a slot its turn. If it has ended or exceeded its time, the slot is free
-/// then.
-fn serve_place<S: Service>(place: &mut Option<Peer>, service: &mut S, now: Instant)
-    ensures leads { Leads S.answers service.old service.new }
-    ensures in_time { IfSome place.new (λ peer. IsInTime peer.timer now) }
+/// Gives the connection in a slot its turn. If it has ended, the slot is free then.
+fn give_turn<S: Service>(place: &mut Option<Peer>, service: &mut S, now: Instant)
+    ensures { Leads S.answers service.old service.new }
 {
     let Some(peer) = place else {
         return;
     };
-    let lasts = peer.turn(service, now) && peer.is_in_time(now);
-    if !lasts {
+    if !peer.turn(service, now) {
         *place = None;
     }
 }
 
-/// Gives each connection its turn.
+/// Ends the turn of the connection in a slot, which began at `begun`. If it has exceeded its time,
+/// the slot is free then.
+fn end_turn(place: &mut Option<Peer>, begun: Instant, now: Instant)
+    ensures { IfSome place.new (λ peer. IsInTime peer.timer now) }
+{
+    let Some(peer) = place else {
+        return;
+    };
+    peer.note_turn(begun, now);
+    if !peer.is_in_time(now) {
+        *place = None;
+    }
+}
+
+/// Gives each connection its turn. The time that the service takes in a turn counts for no limit of
+/// its connection.
 fn serve_places<S: Service, C: Clock>(
     clock: &C,
     places: &mut [Option<Peer>],
@@ -49,8 +61,10 @@ fn serve_places<S: Service, C: Clock>(
     ensures { Leads S.answers service.old service.new }
 {
     for place in places.iter_mut() {
-        let now = Instant::now(clock)?;
-        serve_place(place, service, now);
+        let begun = Instant::now(clock)?;
+        give_turn(place, service, begun);
+        let ended = Instant::now(clock)?;
+        end_turn(place, begun, ended);
     }
     Ok(())
 }

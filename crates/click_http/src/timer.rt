@@ -25,7 +25,7 @@ pub(crate) enum Verdict {
 }
 
 impl Timer {
-    ghost use Rattle.click_http.specs.Phases.{begins, IsInTime, NotesBytes, NotesCall};
+    ghost use Rattle.click_http.specs.Phases.{after_turn, begins, IsInTime, NotesBytes, NotesCall};
     ghost use Rattle.click_http.specs.Waiting.{age};
 
     /// Returns a phase that begins now.
@@ -67,6 +67,18 @@ impl Timer {
             *self = Timer::begin(Phase::Sending, now);
         } else if self.phase == Phase::Sending {
             *self = Timer::begin(Phase::Idle, now);
+        }
+    }
+
+    /// Records that a turn ended, which began at `begun`.
+    ///
+    /// A limit that counts from the beginning of the turn now counts from its end, because the
+    /// service may take a while to make a response.
+    pub(crate) fn note_turn(&mut self, begun: Instant, ended: Instant)
+        ensures { self.new ≡ after_turn self.old begun ended }
+    {
+        if self.age(begun) == 0 {
+            *self = Timer::begin(self.phase, ended);
         }
     }
 }
